@@ -38,7 +38,7 @@ impl Model for Block {
 
 /// The two halves of a block.
 #[derive(Clone, Copy, PartialEq, Eq, Debug)]
-pub struct Halves {
+pub struct BlockHalves {
     pub low: Block,
     pub high: Block,
 }
@@ -119,7 +119,7 @@ fn middle(side: Stretch) -> usize
 
 /// The halves of a block: its longest stretch, of equal ones the first, is cut behind its middle.
 /// `None` exactly where it is one atom.
-pub fn halves_of(block: &Block) -> Option<Halves>
+pub fn halves_of(block: &Block) -> Option<BlockHalves>
     ensures { MatchOption result (IsOneAtom block.now) (λ h. AreHalves block.now h.low h.high) }
 {
     let found = longest(block);
@@ -128,7 +128,7 @@ pub fn halves_of(block: &Block) -> Option<Halves>
         return None;
     }
     let end = middle(side);
-    Some(Halves {
+    Some(BlockHalves {
         low: block.with(
             found.axis,
             Stretch {

@@ -10,7 +10,7 @@ mod set;
 mod sums;
 
 pub use axis::Axis;
-pub use block::{Block, Halves, Stretch, atoms_in, halves_of};
+pub use block::{Block, BlockHalves, Stretch, atoms_in, halves_of};
 pub use grid::{Grid, MOST_ATOMS};
 pub use set::AtomSet;
 pub use sums::Sums;

@@ -2,8 +2,8 @@
 
 use crate::board::Board;
 use sot_flight::Flight;
-use sot_journal::Journal;
 use sot_tube::Accepted;
+use sot_turn_journal::Journal;
 use sot_world::Entry;
 use std::marker::Model;
 

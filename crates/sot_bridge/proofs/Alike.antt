@@ -6,7 +6,7 @@ use Rattle.sot_lists.specs.Places.{At}
 use Rattle.sot_box.specs.Regions.{IsInRegion}
 use Rattle.sot_sections.specs.declared.mission.Need.TheVariants as needs
 use Rattle.sot_sections.specs.Sections.{Parts, split_of}
-use Rattle.sot_tree.specs.Trees.{Program}
+use Rattle.sot_syntax_tree.specs.Trees.{Program}
 use Rattle.sot_lang.specs.declared.cert.Cert.{Cert}
 use Rattle.sot_lang.specs.Tables.{Tables}
 use Rattle.sot_lang.specs.TableRules.{MeetsTableRules}
@@ -23,10 +23,10 @@ use Rattle.sot_tube.specs.Refusals.{Refusal}
 use Rattle.sot_tube.specs.Verdict.{verdict}
 use Rattle.sot_tube.proofs.Acceptance.{certified_passes}
 use Rattle.sot_tube.proofs.VerdictExact.{verdict_exact}
-use Rattle.sot_law_same_tables.proofs.Certificates.{certificates_alike}
-use Rattle.sot_law_same_tables.proofs.Certified.{certified_alike}
-use Rattle.sot_law_same_tables.proofs.Seen.{modules_same}
-use Rattle.sot_law_same_tables.proofs.Flights.{flights_alike}
+use Rattle.sot_law_equal_tables.proofs.Certificates.{certificates_alike}
+use Rattle.sot_law_equal_tables.proofs.Certified.{certified_alike}
+use Rattle.sot_law_equal_tables.proofs.Seen.{modules_same}
+use Rattle.sot_law_equal_tables.proofs.Flights.{flights_alike}
 use Rattle.sot_world.specs.Opens.{IsFirstOutside}
 use Rattle.sot_report.specs.declared.fault.Fault.{Fault}
 use Rattle.sot_report.specs.declared.fault.Fault.TheVariants as faults

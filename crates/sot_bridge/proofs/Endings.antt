@@ -5,11 +5,11 @@ use Rattle.std.specs.Io.KnownBytes.{Keeps}
 use Rattle.std.proofs.lemmas.List.{length-append}
 use Rattle.sot_ports.specs.Faults.{Rose}
 use Rattle.sot_ports.specs.Outside.{Outside, Written}
-use Rattle.sot_program_answers.specs.Texts.{input_limit}
-use Rattle.sot_bridge_input.specs.Words.{Asks}
-use Rattle.sot_program_answers.specs.declared.answer.Answer.{Answer}
-use Rattle.sot_program_answers.specs.declared.status.Status.{Status}
-use Rattle.sot_program_answers.proofs.Endings.{Texts, Says, EndsSaying, ends_saying, never_silent, calm_status, ends_unsaid, never_unsaid}
+use Rattle.sot_cli.specs.Texts.{input_limit}
+use Rattle.sot_bridge.specs.Words.{Asks}
+use Rattle.sot_cli.specs.declared.answer.Answer.{Answer}
+use Rattle.sot_cli.specs.declared.status.Status.{Status}
+use Rattle.sot_cli.proofs.Endings.{Texts, Says, EndsSaying, ends_saying, never_silent, calm_status, ends_unsaid, never_unsaid}
 use Rattle.sot_bridge.specs.Answers.{Accepts, Refutes, Rejects, Replies}
 use Rattle.sot_bridge.specs.Ends.{Ends, AskSome, Done, IsUsage, IsTooLong, Decides}
 use Rattle.sot_bridge.specs.Steps.{AskAnswer, WordAnswer, Silence}

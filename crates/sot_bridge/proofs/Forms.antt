@@ -27,10 +27,10 @@ use Rattle.sot_report.specs.declared.fault.Fault.{Fault}
 use Rattle.sot_report.specs.Missions.{HasFault}
 use Rattle.sot_report.specs.FaultTexts.{fault_text}
 use Rattle.sot_report.specs.RefusalTexts.{refusal_text}
-use Rattle.sot_bridge_input.specs.Halves.{Halves, halves_of}
-use Rattle.sot_bridge_sends.specs.Sends.{sends_of}
-use Rattle.sot_bridge_sends.proofs.Relaying.{may_be_relayed}
-use Rattle.sot_program_answers.specs.declared.answer.Answer.{Answer}
+use Rattle.sot_bridge.specs.MissionHalves.{MissionHalves, halves_of}
+use Rattle.sot_bridge.specs.SendLaws.{sends_of}
+use Rattle.sot_bridge.proofs.Relaying.{may_be_relayed}
+use Rattle.sot_cli.specs.declared.answer.Answer.{Answer}
 use Rattle.sot_bridge.specs.declared.answer.Which.TheVariants.{A, B}
 use Rattle.sot_bridge.specs.declared.joining.JoinFault.{JoinFault}
 use Rattle.sot_bridge.specs.Answers.{Side, SpellsSide, IsAccepted, Starts, IsOutsideOf, Accepts, Joins, DoNotJoin, Replies, word_of}
@@ -205,7 +205,7 @@ module _ (a b : Side) (from to : List ℕ) (delay : ℕ) where
   apart_result (Err e) fault word apart is three said = tt
 
   -- what is said of both is said of the bytes that spell them
-  replied : (bytes text : List ℕ) (status : ℕ) (halves : Halves) → halves_of bytes ≡ Some halves → SpellsSide halves.a a → SpellsSide halves.b b
+  replied : (bytes text : List ℕ) (status : ℕ) (halves : MissionHalves) → halves_of bytes ≡ Some halves → SpellsSide halves.a a → SpellsSide halves.b b
       → RepliesBoth a b from to delay status text → Replies from to delay bytes status text
   replied bytes text status halves divided a_is b_is (inl (k, l, joins, inl (zero, a_ok, b_ok, a_safe, b_safe, a_in, b_in, flown))) =
       let accepts : Accepts from to delay bytes text = record {
@@ -228,7 +228,7 @@ module _ (a b : Side) (from to : List ℕ) (delay : ℕ) where
       inr (inl (one, (a, b, k, l, (halves, divided, a_is, b_is), joins, refuses)))
   replied bytes text status halves divided a_is b_is (inr (three, said)) = inr (inr (three, inr (inr (a, b, (halves, divided, a_is, b_is), said))))
 
-  pub replied_result : (r : Result Answer AllocError) (bytes : List ℕ) (halves : Halves) → halves_of bytes ≡ Some halves → SpellsSide halves.a a
+  pub replied_result : (r : Result Answer AllocError) (bytes : List ℕ) (halves : MissionHalves) → halves_of bytes ≡ Some halves → SpellsSide halves.a a
       → SpellsSide halves.b b → IfOk r (λ x. RepliesBoth a b from to delay x.status x.text.items)
       → IfOk r (λ x. Replies from to delay bytes x.status x.text.items)
   replied_result (Ok x) bytes halves divided a_is b_is said = replied bytes x.text.items x.status halves divided a_is b_is said
@@ -240,13 +240,13 @@ module _ (from to : List ℕ) (delay : ℕ) (bytes : List ℕ) where
   undivided_result (Ok x) none three said = inr (inr (three, inl (none, said)))
   undivided_result (Err e) none three said = tt
 
-  pub faulty_a : (r : Result Answer AllocError) (halves : Halves) (f : Fault) → halves_of bytes ≡ Some halves → HasFault needs.Fly 0 halves.a f
+  pub faulty_a : (r : Result Answer AllocError) (halves : MissionHalves) (f : Fault) → halves_of bytes ≡ Some halves → HasFault needs.Fly 0 halves.a f
       → IfOk r (λ x. x.status ≡ 3) → IfOk r (λ x. x.text.items ≡ word_of A ++ fault_text f)
       → IfOk r (λ x. Replies from to delay bytes x.status x.text.items)
   faulty_a (Ok x) halves f divided has three said = inr (inr (three, inr (inl (halves, divided, inl (f, has, said)))))
   faulty_a (Err e) halves f divided has three said = tt
 
-  pub faulty_b : (r : Result Answer AllocError) (halves : Halves) (a : Side) (f : Fault) → halves_of bytes ≡ Some halves → SpellsSide halves.a a
+  pub faulty_b : (r : Result Answer AllocError) (halves : MissionHalves) (a : Side) (f : Fault) → halves_of bytes ≡ Some halves → SpellsSide halves.a a
       → HasFault needs.Fly 0 halves.b f → IfOk r (λ x. x.status ≡ 3) → IfOk r (λ x. x.text.items ≡ word_of B ++ fault_text f)
       → IfOk r (λ x. Replies from to delay bytes x.status x.text.items)
   faulty_b (Ok x) halves a f divided a_is has three said = inr (inr (three, inr (inl (halves, divided, inr (a, a_is, (f, has, said))))))

@@ -1,6 +1,6 @@
 -- Whether two missions join, from what was found out of their topics and flights.
 use Rattle.std.proofs.Common.{ℕ, List}
-use Rattle.sot_bridge_topics.specs.Topics.{Match}
+use Rattle.sot_bridge.specs.Topics.{Match}
 use Rattle.sot_bridge.specs.declared.joining.JoinFault.{JoinFault}
 use Rattle.sot_bridge.specs.declared.joining.JoinFault.TheVariants as kinds
 use Rattle.sot_bridge.specs.Answers.{Side, AreNamed, Joins, DoNotJoin, most}

@@ -1,4 +1,4 @@
-pub mod Words
+pub mod DelayWords
 pub mod Halved
 pub mod Sides
 pub mod Joined
@@ -6,3 +6,11 @@ pub mod Forms
 pub mod Alike
 pub mod Unique
 pub mod Endings
+pub mod Dividing
+pub mod Writers
+pub mod Slots
+pub mod Few
+pub mod Times
+pub mod Ranges
+pub mod Relaying
+pub mod Sending

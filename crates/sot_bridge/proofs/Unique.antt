@@ -14,13 +14,13 @@ use Rattle.sot_lang.specs.Tables.{Tables}
 use Rattle.sot_lang.specs.TableRules.{MeetsTableRules}
 use Rattle.sot_lang.proofs.NamesOnce.{topic_same}
 use Rattle.sot_typing.specs.Resolved.{ProgramTables, NodeTable, node_seen, tables_seen}
-use Rattle.sot_law_same_tables.proofs.Seen.{scalars_same, nodes_seen_same}
+use Rattle.sot_law_equal_tables.proofs.Seen.{scalars_same, nodes_seen_same}
 use Rattle.sot_flight.specs.Plans.{Plan}
 use Rattle.sot_flight.specs.Counts.{due_count}
-use Rattle.sot_bridge_input.specs.Words.{Asks}
-use Rattle.sot_bridge_input.specs.Halves.{Halves, halves_of}
-use Rattle.sot_bridge_topics.specs.Topics.{IsNamed, Match}
-use Rattle.sot_bridge_topics.specs.Sends.{has_topic, due_sends}
+use Rattle.sot_bridge.specs.Words.{Asks}
+use Rattle.sot_bridge.specs.MissionHalves.{MissionHalves, halves_of}
+use Rattle.sot_bridge.specs.Topics.{IsNamed, Match}
+use Rattle.sot_bridge.specs.Sends.{has_topic, due_sends}
 use Rattle.sot_bridge.specs.declared.joining.JoinFault.{JoinFault}
 use Rattle.sot_bridge.specs.declared.joining.JoinFault.TheVariants as kinds
 use Rattle.sot_bridge.specs.Answers.{Side, SpellsSide, AreNamed, Joins, DoNotJoin, RefusesOne, Accepts, Refutes, Rejects, Replies, most}
@@ -129,25 +129,25 @@ module _ (a b : Side) (a_rules : MeetsTableRules a.tables) (b_rules : MeetsTable
       absurd (omega (arith, many, few)))
 
 -- a text is divided in one way
-one_division : (bytes : List ℕ) (g h : Halves) → halves_of bytes ≡ Some g → halves_of bytes ≡ Some h → g ≡ h
+one_division : (bytes : List ℕ) (g h : MissionHalves) → halves_of bytes ≡ Some g → halves_of bytes ≡ Some h → g ≡ h
 one_division bytes g h e f = same_Some g h (sym e ∙ f)
 
-pair_alike : (bytes : List ℕ) (a b a' b' : Side) (g h : Halves) → halves_of bytes ≡ Some g → SpellsSide g.a a → SpellsSide g.b b
+pair_alike : (bytes : List ℕ) (a b a' b' : Side) (g h : MissionHalves) → halves_of bytes ≡ Some g → SpellsSide g.a a → SpellsSide g.b b
     → halves_of bytes ≡ Some h → SpellsSide h.a a' → SpellsSide h.b b' → Alike a a' × Alike b b'
 pair_alike bytes a b a' b' g h e sa sb f sa' sb' =
     let same = one_division bytes g h e f in (
-      alike h.a a a' (subst (λ (x : Halves). SpellsSide x.a a) same sa) sa',
-      alike h.b b b' (subst (λ (x : Halves). SpellsSide x.b b) same sb) sb',
+      alike h.a a a' (subst (λ (x : MissionHalves). SpellsSide x.a a) same sa) sa',
+      alike h.b b b' (subst (λ (x : MissionHalves). SpellsSide x.b b) same sb) sb',
     )
 
 -- two missions that are spelled and join are not rejected
-not_rejected : (from to : List ℕ) (delay : ℕ) (bytes text : List ℕ) (a b : Side) (k l : ℕ) (g : Halves) → halves_of bytes ≡ Some g → SpellsSide g.a a
+not_rejected : (from to : List ℕ) (delay : ℕ) (bytes text : List ℕ) (a b : Side) (k l : ℕ) (g : MissionHalves) → halves_of bytes ≡ Some g → SpellsSide g.a a
     → SpellsSide g.b b → Joins a b from to delay k l → Rejects from to delay bytes text → ⊥
 not_rejected from to delay bytes text a b k l g e sa sb joins (inl (none, says)) = (let both = sym e ∙ none in absurd cc)
 not_rejected from to delay bytes text a b k l g e sa sb joins (inr (inl (h, f, inl (fault, has, says)))) =
-    side_faulty h.a a fault (subst (λ (x : Halves). SpellsSide x.a a) (one_division bytes g h e f) sa) has
+    side_faulty h.a a fault (subst (λ (x : MissionHalves). SpellsSide x.a a) (one_division bytes g h e f) sa) has
 not_rejected from to delay bytes text a b k l g e sa sb joins (inr (inl (h, f, inr (a', spells, (fault, has, says))))) =
-    side_faulty h.b b fault (subst (λ (x : Halves). SpellsSide x.b b) (one_division bytes g h e f) sb) has
+    side_faulty h.b b fault (subst (λ (x : MissionHalves). SpellsSide x.b b) (one_division bytes g h e f) sb) has
 not_rejected from to delay bytes text a b k l g e sa sb joins (inr (inr (a', b', (h, f, sa', sb'), (fault, apart, says)))) =
     let both = pair_alike bytes a b a' b' g h e sa sb f sa' sb' in
     joined_not_apart a' b' (rules_of h.a a' sa') (rules_of h.b b' sb') from to delay k l (joins_moved a a' b b' both.0 both.1 from to delay k l joins)

@@ -18,11 +18,11 @@ use Rattle.sot_report.specs.declared.fault.Fault.{Fault}
 use Rattle.sot_report.specs.Missions.{Mission, SpellsMission, HasFault}
 use Rattle.sot_report.specs.FaultTexts.{fault_text}
 use Rattle.sot_report.specs.RefusalTexts.{refusal_text}
-use Rattle.sot_program_answers.specs.Starts.{IsOutsideLine}
-use Rattle.sot_bridge_input.specs.Halves.{Halves, halves_of}
-use Rattle.sot_bridge_topics.specs.Topics.{IsNamed, Match}
-use Rattle.sot_bridge_topics.specs.Sends.{most_sends}
-use Rattle.sot_bridge_sends.specs.Sends.{sends_of}
+use Rattle.sot_cli.specs.Starts.{IsOutsideLine}
+use Rattle.sot_bridge.specs.MissionHalves.{MissionHalves, halves_of}
+use Rattle.sot_bridge.specs.Topics.{IsNamed, Match}
+use Rattle.sot_bridge.specs.Sends.{most_sends}
+use Rattle.sot_bridge.specs.SendLaws.{sends_of}
 use Rattle.sot_bridge.specs.declared.answer.Which.{Which}
 use Rattle.sot_bridge.specs.declared.answer.Which.TheVariants.{A, B}
 use Rattle.sot_bridge.specs.declared.joining.JoinFault.{JoinFault}
@@ -44,7 +44,7 @@ SpellsSide bytes s =
 -- the bytes are divided at a line `%bridge`, and each half spells a mission
 abbrev pub SpellPair : List ℕ → Side → Side → Type 0
 SpellPair bytes a b =
-    (halves : Halves) × (halves_of bytes ≡ Some halves) × SpellsSide halves.a a
+    (halves : MissionHalves) × (halves_of bytes ≡ Some halves) × SpellsSide halves.a a
     × SpellsSide halves.b b
 
 -- the topic of the first name, which nodes of the one mission write, and that of the second, which
@@ -167,7 +167,7 @@ Refutes from to delay bytes text =
 abbrev pub Rejects : List ℕ → List ℕ → ℕ → List ℕ → List ℕ → Type 0
 Rejects from to delay bytes text =
     ((halves_of bytes ≡ None) × (text ≡ section_text))
-    ⊎ ((halves : Halves) × (halves_of bytes ≡ Some halves)
+    ⊎ ((halves : MissionHalves) × (halves_of bytes ≡ Some halves)
     × (((f : Fault) × HasFault needs.Fly 0 halves.a f × (text ≡ of_a (fault_text f)))
     ⊎ ((a : Side) × SpellsSide halves.a a
     × ((f : Fault) × HasFault needs.Fly 0 halves.b f × (text ≡ of_b (fault_text f))))))

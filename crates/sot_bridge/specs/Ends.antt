@@ -6,8 +6,8 @@ use Rattle.std.proofs.Common.{Global}
 use Rattle.sot_ports.specs.Faults.{Rose}
 use Rattle.sot_ports.specs.Outside.{Outside, Writes, WritesPart}
 use Rattle.sot_ports.specs.Whole.{ReadsAll, ReadsCount}
-use Rattle.sot_program_answers.specs.Texts.{input_limit, long_text}
-use Rattle.sot_bridge_input.specs.Words.{Asks}
+use Rattle.sot_cli.specs.Texts.{input_limit, long_text}
+use Rattle.sot_bridge.specs.Words.{Asks}
 use Rattle.sot_bridge.specs.Answers.{Accepts, Refutes, Rejects, Replies}
 use Rattle.sot_bridge.specs.Texts.{usage_text}
 

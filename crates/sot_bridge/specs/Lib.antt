@@ -1,8 +1,12 @@
--- how a call of `bridge` may end, to be read first
+-- between the crate's own functions
 pub mod Ends
--- what is answered, and in which words
 pub mod Answers
 pub mod Texts
--- what the functions below it promise
 pub mod Sides
 pub mod Steps
+pub mod Words
+pub mod MissionHalves
+pub mod Topics
+pub mod Sends
+pub mod SendLaws
+pub mod Laws

@@ -9,9 +9,9 @@ use Rattle.sot_flight.specs.Plans.{Plan}
 use Rattle.sot_flight.specs.Relayed.{Send, relayed}
 use Rattle.sot_board.specs.Flown.{FlownBy}
 use Rattle.sot_trace.specs.Traces.{trace_text}
-use Rattle.sot_program_answers.specs.Steps.{InputAnswer, SilentWhere}
-use Rattle.sot_bridge_input.specs.Words.{Asks}
-use Rattle.sot_bridge_sends.specs.Sends.{sends_of}
+use Rattle.sot_cli.specs.Steps.{InputAnswer, SilentWhere}
+use Rattle.sot_bridge.specs.Words.{Asks}
+use Rattle.sot_bridge.specs.SendLaws.{sends_of}
 use Rattle.sot_bridge.specs.declared.joining.JoinFault.{JoinFault}
 use Rattle.sot_bridge.specs.declared.joining.JoinFault.TheVariants as kinds
 use Rattle.sot_bridge.specs.Answers.{Side, IsAccepted, Starts, RefusesOne, AreFlown, Replies}

@@ -8,9 +8,9 @@ ghost use Rattle.sot_report.specs.FaultTexts.{fault_text};
 ghost use Rattle.sot_report.specs.RefusalTexts.{refusal_text};
 ghost use Rattle.sot_bridge.specs.Answers.{word_of, IsOutsideOf};
 
+use sot_cli::{Answer, outside_line};
 use sot_flight::Flight;
 use sot_lang::Typed;
-use sot_program_answers::{Answer, outside_line};
 use sot_report::Fault;
 use sot_rta::Refusal;
 use std::alloc::{AllocError, Global};

@@ -16,14 +16,14 @@ ghost use Rattle.sot_bridge.specs.Steps.{IsFirstFlown, SaysRelayed, SaysSecond};
 ghost use Rattle.sot_bridge.specs.Steps.{JudgesFlights, JudgesSecond, JudgesBoth};
 
 use crate::answer::{Which, outside, refused};
+use crate::flown::board_sends;
 use crate::joining::Joint;
 use crate::side::Side;
 use sot_board::Board;
-use sot_bridge_sends::board_sends;
+use sot_cli::Answer;
 use sot_compose::check_all;
 use sot_flight::{Flight, Sent};
 use sot_lang::Typed;
-use sot_program_answers::Answer;
 use sot_trace::board_text;
 use sot_tube::Accepted;
 use sot_workers::fly_alone;

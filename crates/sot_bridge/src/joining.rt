@@ -7,8 +7,9 @@ ghost use Rattle.sot_bridge.specs.Answers.{AreNamed, Joins, DoNotJoin, most};
 ghost use Rattle.sot_bridge.specs.Sides.{side_of};
 ghost use Rattle.sot_bridge.specs.Steps.{HasRoom, LacksRoom};
 
+use crate::counting::most_sends;
 use crate::side::Side;
-use sot_bridge_topics::{most_sends, topic_named, topics_match};
+use crate::topics::{topic_named, topics_match};
 use sot_flight::Flight;
 use sot_lang::Typed;
 

@@ -1,8 +1,8 @@
 //! The program, over real words, source and sink.
 
 use crate::top::bridge;
+use sot_cli::run_program;
 use sot_ports::Process;
-use sot_program_answers::run_program;
 use std::alloc::Global;
 use std::env::Args;
 use std::io;

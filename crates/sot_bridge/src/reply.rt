@@ -3,8 +3,8 @@
 ghost use Rattle.std.specs.Prelude.{◌≡◌, ℕ, ◌≤◌, List, Some, length, IfOk};
 ghost use Rattle.sot_lang.specs.CertRules.{FitsTables};
 ghost use Rattle.sot_flight.specs.Fits.{FitsFlight};
-ghost use Rattle.sot_program_answers.specs.Texts.{input_limit};
-ghost use Rattle.sot_bridge_input.specs.Halves.{Halves as Divided, halves_of};
+ghost use Rattle.sot_cli.specs.Texts.{input_limit};
+ghost use Rattle.sot_bridge.specs.MissionHalves.{MissionHalves as Divided, halves_of};
 ghost use Rattle.sot_bridge.specs.Answers.{Replies, SpellsSide};
 ghost use Rattle.sot_bridge.specs.Sides.{side_of};
 ghost use Rattle.sot_bridge.specs.Steps.{RepliesBoth};
@@ -14,11 +14,11 @@ ghost use Rattle.sot_sections.specs.declared.mission.Need.TheVariants as needs;
 
 use crate::answer::{Which, faulty};
 use crate::flying::fly_both;
+use crate::halves::divide;
 use crate::joining::{JoinFault, join};
 use crate::side::Side;
-use sot_bridge_input::divide;
+use sot_cli::{Answer, fixed};
 use sot_ports::{Process, let_go};
-use sot_program_answers::{Answer, fixed};
 use sot_report::{LoadFail, Loaded, load};
 use sot_sections::Need;
 use std::alloc::{AllocError, Global};
@@ -26,7 +26,7 @@ use std::thread::Threads;
 
 /// What the words ask for: the names of two topics, and a delay in ticks.
 #[derive(Clone, Copy, Debug)]
-pub struct Ask<'w> {
+pub struct BridgeAsk<'w> {
     pub from: &'w str,
     pub to: &'w str,
     pub delay: u32,
@@ -48,7 +48,7 @@ fn kind_text(fault: JoinFault) -> &'static str
 fn bridged<R: Threads + Sync>(
     rt: &R,
     alloc: Global,
-    ask: Ask<'_>,
+    ask: BridgeAsk<'_>,
     a: &Side<'_>,
     b: &Side<'_>,
 ) -> Result<Answer, AllocError>
@@ -88,7 +88,7 @@ fn side_of<'l>(loaded: &'l Loaded<'_>) -> Side<'l>
 fn with_first<R: Threads + Sync>(
     rt: &R,
     alloc: Global,
-    ask: Ask<'_>,
+    ask: BridgeAsk<'_>,
     a: &Side<'_>,
     bytes: &[u8],
     process: Process,
@@ -118,7 +118,7 @@ fn with_first<R: Threads + Sync>(
 pub fn reply_of<R: Threads + Sync>(
     rt: &R,
     alloc: Global,
-    ask: Ask<'_>,
+    ask: BridgeAsk<'_>,
     bytes: &[u8],
     process: Process,
 ) -> Result<Answer, AllocError>

@@ -2,30 +2,28 @@
 
 ghost use Rattle.std.specs.Prelude.{◌≡◌, ◌+◌, ◌≤◌, ◌⊎◌, ℕ, List, IfOk, IfErr, IsErrOf};
 ghost use Rattle.sot_ports.specs.Faults.{Rose};
-ghost use Rattle.sot_bridge_input.specs.Words.{Asks};
+ghost use Rattle.sot_bridge.specs.Words.{Asks};
 ghost use Rattle.sot_ports.specs.Whole.{ReadsUpTo};
 ghost use Rattle.sot_ports.specs.Outside.{outside};
 ghost use Rattle.sot_bridge.specs.Ends.{Ends, AskNone};
 ghost use Rattle.sot_bridge.specs.Steps.{AskAnswer, WordAnswer, Silence};
 
-use crate::reply::{Ask, reply_of};
-use sot_bridge_input::{WordFail, delay_of};
+use crate::reply::{BridgeAsk, reply_of};
+use crate::words::{DelayFail, delay_of};
+use sot_cli::{Answer, INPUT_LIMIT, Status, fixed, or_memory, read_input, say, too_long};
 use sot_ports::{Process, ReadFail, Sink, Source};
-use sot_program_answers::{
-    Answer, INPUT_LIMIT, Status, fixed, or_memory, read_input, say, too_long,
-};
 use std::alloc::Global;
 use std::thread::Threads;
 
 const USAGE: &str = "usage: soter_bridge TOPIC_A TOPIC_B DELAY\n";
 
 // What the words ask for.
-fn asked<'w>(alloc: Global, words: &'w [String]) -> Result<Ask<'w>, WordFail>
+fn asked<'w>(alloc: Global, words: &'w [String]) -> Result<BridgeAsk<'w>, DelayFail>
     ensures ok { IfOk result (λ ask. Asks words.now ask.from.now ask.to.now ask.delay) }
-    ensures form { IsErrOf result WordFail.Form → AskNone words.now }
+    ensures form { IsErrOf result DelayFail.Form → AskNone words.now }
 {
     let delay = delay_of(alloc, words)?;
-    Ok(Ask {
+    Ok(BridgeAsk {
         from: words[0].as_str(),
         to: words[1].as_str(),
         delay,
@@ -36,7 +34,7 @@ fn asked<'w>(alloc: Global, words: &'w [String]) -> Result<Ask<'w>, WordFail>
 fn perform<R: Threads + Sync, S: Source>(
     rt: &R,
     alloc: Global,
-    ask: Ask<'_>,
+    ask: BridgeAsk<'_>,
     source: &mut S,
     process: Process,
 ) -> Result<Answer, Status>
@@ -59,7 +57,7 @@ fn perform<R: Threads + Sync, S: Source>(
 }
 
 // The answer to the words, before anything is written.
-#[tactic(auto, using(sot_program_answers::proofs::Endings::reads_nothing))]
+#[tactic(auto, using(sot_cli::proofs::Endings::reads_nothing))]
 fn answer_to<R: Threads + Sync, S: Source>(
     rt: &R,
     alloc: Global,
@@ -77,8 +75,8 @@ fn answer_to<R: Threads + Sync, S: Source>(
 {
     match asked(alloc, words) {
         Ok(ask) => perform(rt, alloc, ask, source, process),
-        Err(WordFail::Form) => or_memory(fixed(alloc, 2, USAGE)),
-        Err(WordFail::Memory) => Err(Status(6)),
+        Err(DelayFail::Form) => or_memory(fixed(alloc, 2, USAGE)),
+        Err(DelayFail::Memory) => Err(Status(6)),
     }
 }
 

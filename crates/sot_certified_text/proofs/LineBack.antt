@@ -6,7 +6,7 @@ use Rattle.json.proofs.Printed.Utf8.{IsUtf8-are_ascii}
 use Rattle.serde_json.specs.Data.{Data, Members}
 use Rattle.serde_json.specs.Find.{of_integer}
 use Rattle.serde_json.specs.Written.{compact_text}
-use Rattle.sot_tree.proofs.Names.{name_utf8}
+use Rattle.sot_syntax_tree.proofs.Names.{name_utf8}
 use Rattle.sot_box.specs.BoxList.{BoxList}
 use Rattle.sot_box.specs.Sides.{Side, AreOrdered}
 use Rattle.sot_lists.specs.Places.{At}

@@ -6,9 +6,9 @@ use Rattle.std.proofs.lemmas.Int.{ints}
 use Rattle.std.proofs.lemmas.Option.{none-some, same_Some, slice_get_within}
 use Rattle.sot_text.specs.declared.token.Kind.TheVariants.{Name}
 use Rattle.sot_text.specs.Lexeme.{IsTokenText}
-use Rattle.sot_tree.specs.declared.tree.Bounds.{Bounds}
-use Rattle.sot_tree.specs.Trees.{Area}
-use Rattle.sot_tree.specs.Formed.{Each, AreBounds, IsArea}
+use Rattle.sot_syntax_tree.specs.declared.tree.Bounds.{Bounds}
+use Rattle.sot_syntax_tree.specs.Trees.{Area}
+use Rattle.sot_syntax_tree.specs.Formed.{Each, AreBounds, IsArea}
 use Rattle.sot_typing.specs.Resolved.{side_of}
 use Rattle.sot_typing.proofs.Lists.{each_at}
 use Rattle.sot_typing.proofs.Meanings.{module_formed}
@@ -21,8 +21,8 @@ use Rattle.sot_lang.specs.declared.cert.Cells.{Cells}
 use Rattle.sot_lang.specs.declared.cert.Cert.{Cert}
 use Rattle.sot_lang.specs.declared.tables.ModuleInfo.{ModuleInfo}
 use Rattle.sot_lang.specs.Tables.{Tables}
-use Rattle.sot_halving.specs.Cuts.{AreHalves}
-use Rattle.sot_halving.specs.Findings.{Finding, Whole, Failing, Begun, followed, BisectsWithin, BisectsEach}
+use Rattle.sot_certify.specs.Cuts.{AreHalves}
+use Rattle.sot_certify.specs.Findings.{Finding, Whole, Failing, Begun, followed, BisectsWithin, BisectsEach}
 use Rattle.sot_cert.specs.CertFormat.{cert_of, contents}
 use Rattle.sot_certify.specs.Made.{AreMade}
 use Rattle.sot_certify.specs.Certifying.{IsMadeFor}

@@ -2,14 +2,14 @@
 use Rattle.std.proofs.Common.{◌≡◌, ℕ, Bool, true, false, Option, None, Some, List, [], ◌∷◌, ◌++◌, codes, refl}
 use Rattle.sot_text.specs.declared.token.Kind.TheVariants.{Name}
 use Rattle.sot_text.specs.Lexeme.{IsTokenText}
-use Rattle.sot_tree.specs.declared.tree.Ident.{Ident}
-use Rattle.sot_tree.specs.declared.tree.Lit.{Lit}
-use Rattle.sot_tree.specs.declared.tree.Field.{Field}
-use Rattle.sot_tree.specs.declared.tree.StateDecl.{StateDecl}
-use Rattle.sot_tree.specs.Trees.{Block, Form, one, fields, Start, one_value, values, Topic, Next, Local, Plant, Node, Area, Module, Declaration, a_topic}
-use Rattle.sot_tree.specs.Trees.{a_plant, a_node, a_module}
-use Rattle.sot_tree.specs.Formed.{Each, IsName, IfThere, AreBounds, IsField, IsConst, IsBlock, IsForm, IsStart, IsTopic, IsState, IsNext, IsPlant, IsLocal}
-use Rattle.sot_tree.specs.Formed.{IsNode, IsArea, IsModule, IsDeclaration}
+use Rattle.sot_syntax_tree.specs.declared.tree.Ident.{Ident}
+use Rattle.sot_syntax_tree.specs.declared.tree.Lit.{Lit}
+use Rattle.sot_syntax_tree.specs.declared.tree.Field.{Field}
+use Rattle.sot_syntax_tree.specs.declared.tree.StateDecl.{StateDecl}
+use Rattle.sot_syntax_tree.specs.Trees.{Block, Form, one, fields, Start, one_value, values, Topic, Next, Local, Plant, Node, Area, Module, Declaration, a_topic}
+use Rattle.sot_syntax_tree.specs.Trees.{a_plant, a_node, a_module}
+use Rattle.sot_syntax_tree.specs.Formed.{Each, IsName, IfThere, AreBounds, IsField, IsConst, IsBlock, IsForm, IsStart, IsTopic, IsState, IsNext, IsPlant, IsLocal}
+use Rattle.sot_syntax_tree.specs.Formed.{IsNode, IsArea, IsModule, IsDeclaration}
 use Rattle.sot_print.specs.declared.gap.Gap.{Gap}
 use Rattle.sot_print.specs.declared.gap.Gap.TheVariants.{Touching, Space, Line}
 use Rattle.sot_print.specs.Words.{Word, keyword, sign, name, text_of}

@@ -3,12 +3,12 @@
 use Rattle.std.proofs.Common.{◌≡◌, ℕ, List, None, Ok, Err, sym, ap, ◌∙◌, subst}
 use Rattle.sot_sections.specs.declared.mission.Need.TheVariants.{Check}
 use Rattle.sot_sections.specs.Sections.{Parts, split_of}
-use Rattle.sot_tree.specs.Trees.{Program}
+use Rattle.sot_syntax_tree.specs.Trees.{Program}
 use Rattle.sot_parser.specs.Programs.{Spells}
 use Rattle.sot_print.specs.Canonical.{canonical}
-use Rattle.sot_law_format.specs.Unplaced.{without_places, AreSame}
-use Rattle.sot_law_format.proofs.Canonical.{canonical_text}
-use Rattle.sot_law_format.proofs.FormedPrograms.{spelled_formed}
+use Rattle.sot_law_print_parse.specs.Unplaced.{without_places, AreSame}
+use Rattle.sot_law_print_parse.proofs.Canonical.{canonical_text}
+use Rattle.sot_law_print_parse.proofs.FormedPrograms.{spelled_formed}
 use Rattle.sot_parser.proofs.ProgramTexts.{spells_unique}
 use Rattle.sot_lang.specs.Tables.{Tables}
 use Rattle.sot_lang.specs.declared.cert.Cert.{Cert}
@@ -26,11 +26,11 @@ use Rattle.sot_certified_text.specs.CertText.{line_with_jitter}
 use Rattle.sot_certified_text.proofs.Lines.{jittered_texts_divide, without_jitter}
 use Rattle.sot_certified_text.proofs.LineBack.{line_back}
 use Rattle.sot_certified_text.proofs.Made.{made_writable, regions_short}
-use Rattle.sot_law_same_tables.specs.UnplacedTables.{AreAlike}
-use Rattle.sot_law_same_tables.proofs.Faultless.{faultless_same}
-use Rattle.sot_law_same_tables.proofs.Tables.{tables_alike}
-use Rattle.sot_law_same_tables.proofs.PlacelessCertificates.{certificates_alike}
-use Rattle.sot_law_same_tables.proofs.PlacelessCertified.{certified_alike}
+use Rattle.sot_law_equal_tables.specs.UnplacedTables.{AreAlike}
+use Rattle.sot_law_equal_tables.proofs.Faultless.{faultless_same}
+use Rattle.sot_law_equal_tables.proofs.Tables.{tables_alike}
+use Rattle.sot_law_equal_tables.proofs.PlacelessCertificates.{certificates_alike}
+use Rattle.sot_law_equal_tables.proofs.PlacelessCertified.{certified_alike}
 use Rattle.sot_certified_text.specs.ReadAgain.{IsCertificateOf, written, IsCertificateFor, written_with_jitter, MadeCertificatesAreForPrograms}
 use Rattle.sot_certified_text.specs.ReadAgain.{TextsWithJitterHaveNoFault, MissionsWithJitterAreCertified, MissionsWithJitterAreNotRefused}
 use Rattle.sot_certified_text.specs.ReadAgain.{WrittenTextsHaveNoFault, WrittenMissionsAreCertified, WrittenMissionsAreNotRefused}

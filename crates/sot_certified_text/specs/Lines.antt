@@ -6,8 +6,8 @@ use Rattle.sot_text.specs.declared.token.Kind.TheVariants.{Name}
 use Rattle.sot_text.specs.Lexeme.{IsTokenText}
 use Rattle.sot_text.specs.LineEnds.{lines}
 use Rattle.sot_sections.specs.Sections.{split_of}
-use Rattle.sot_tree.specs.Trees.{Program}
-use Rattle.sot_tree.specs.Formed.{IsFormed}
+use Rattle.sot_syntax_tree.specs.Trees.{Program}
+use Rattle.sot_syntax_tree.specs.Formed.{IsFormed}
 use Rattle.sot_print.specs.Canonical.{canonical}
 use Rattle.sot_certified_text.specs.Plain.{IsPlain}
 use Rattle.sot_certified_text.specs.Missions.{mission_text}

@@ -2,8 +2,8 @@
 use Rattle.std.specs.Prelude.{◌≡◌, ℕ, List, Ok, None}
 use Rattle.sot_sections.specs.declared.mission.Need.TheVariants.{Check}
 use Rattle.sot_sections.specs.Sections.{split_of}
-use Rattle.sot_tree.specs.Trees.{Program}
-use Rattle.sot_tree.specs.Formed.{IsFormed}
+use Rattle.sot_syntax_tree.specs.Trees.{Program}
+use Rattle.sot_syntax_tree.specs.Formed.{IsFormed}
 use Rattle.sot_typing.specs.Resolved.{AreTables}
 use Rattle.sot_print.specs.Canonical.{canonical}
 use Rattle.sot_certified_text.specs.Missions.{mission_text}

@@ -2,8 +2,8 @@
 use Rattle.std.specs.Prelude.{◌≡◌, ℕ, ◌⊎◌, List, [], ◌∷◌, ◌++◌}
 use Rattle.sot_text.specs.LineEnds.{lines}
 use Rattle.sot_sections.specs.Sections.{division}
-use Rattle.sot_tree.specs.Trees.{Program}
-use Rattle.sot_tree.specs.Formed.{IsFormed}
+use Rattle.sot_syntax_tree.specs.Trees.{Program}
+use Rattle.sot_syntax_tree.specs.Formed.{IsFormed}
 use Rattle.sot_print.specs.Canonical.{canonical}
 
 -- a text is empty, or ends with a line end

@@ -1,11 +1,11 @@
 -- The text of a program with a certificate for its tables, when it is read as a mission.
 use Rattle.std.specs.Prelude.{◌≡◌, ℕ, List, Ok}
 use Rattle.sot_sections.specs.declared.mission.Need.TheVariants.{Check}
-use Rattle.sot_tree.specs.Trees.{Program}
-use Rattle.sot_tree.specs.Formed.{IsFormed}
+use Rattle.sot_syntax_tree.specs.Trees.{Program}
+use Rattle.sot_syntax_tree.specs.Formed.{IsFormed}
 use Rattle.sot_parser.specs.Programs.{Spells}
 use Rattle.sot_print.specs.Canonical.{canonical}
-use Rattle.sot_law_format.specs.Unplaced.{AreSame}
+use Rattle.sot_law_print_parse.specs.Unplaced.{AreSame}
 use Rattle.sot_certified_text.specs.Missions.{mission_text}
 use Rattle.sot_lang.specs.Tables.{Tables}
 use Rattle.sot_lang.specs.CertRules.{FitsTables}

@@ -1,7 +1,7 @@
 //! The whole text of a certified program.
 
 ghost use Rattle.std.specs.Prelude.{◌≡◌, length, Some, IfOk};
-ghost use Rattle.sot_tree.specs.TreeViews.{program_view};
+ghost use Rattle.sot_syntax_tree.specs.TreeViews.{program_view};
 ghost use Rattle.sot_print.specs.Canonical.{canonical};
 ghost use Rattle.sot_json.specs.Json.{json_of};
 ghost use Rattle.sot_certified_text.specs.Missions.{mission_text};
@@ -11,7 +11,7 @@ ghost use Rattle.sot_certified_text.specs.CertText.{data_with_jitter, line_with_
 use crate::line::certificate_line;
 use sot_lang::{Cert, Typed};
 use sot_print::print;
-use sot_tree::Program;
+use sot_syntax_tree::Program;
 use std::alloc::{AllocError, Global};
 
 /// The canonical text of a program, the line `%certificate`, and the line of its certificate with

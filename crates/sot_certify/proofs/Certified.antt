@@ -11,7 +11,7 @@ use Rattle.sot_lang.specs.TableRules.{MeetsTableRules}
 use Rattle.sot_lang.specs.CertRules.{FitsTables}
 use Rattle.sot_tube.specs.Certified.{IsWellCertified, HasCells}
 use Rattle.sot_tube.proofs.VerdictExact.{cells_same}
-use Rattle.sot_halving.proofs.Covering.{whole_each}
+use Rattle.sot_certify.proofs.Covering.{whole_each}
 use Rattle.sot_certify.specs.Conditions.{without_cells}
 use Rattle.sot_certify.specs.Made.{IsGood, IsMade}
 use Rattle.sot_certify.specs.Certifying.{IsMadeFor}

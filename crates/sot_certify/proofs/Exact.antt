@@ -14,9 +14,9 @@ use Rattle.sot_tube.specs.Verdict.{periods, outputs, boxes, composition, code}
 use Rattle.sot_tube.proofs.Exact.{and_then_exact, for_each_exact}
 use Rattle.sot_tube.proofs.VerdictExact.{composition_exact, code_exact, cells_same, periods_exact, outputs_exact, boxes_exact}
 use Rattle.sot_rta.specs.Refused.{refusal_view}
-use Rattle.sot_halving.specs.Findings.{Whole, Failing, Begun}
-use Rattle.sot_halving.specs.Laws.{BeginsWith}
-use Rattle.sot_halving.proofs.Agreement.{each_agree}
+use Rattle.sot_certify.specs.Findings.{Whole, Failing, Begun}
+use Rattle.sot_certify.specs.HalvingLaws.{BeginsWith}
+use Rattle.sot_certify.proofs.Agreement.{each_agree}
 use Rattle.sot_certify.specs.declared.fail.CertifyFail.{CertifyFail}
 use Rattle.sot_certify.specs.declared.fail.CertifyFail.TheVariants.{Refused, Point, TooMany, Memory}
 use Rattle.sot_certify.specs.Conditions.{frame, without_cells}

@@ -16,7 +16,7 @@ use Rattle.sot_iv.specs.BodyIntervals.{Intervals}
 use Rattle.sot_iv.proofs.Unique.{same_number}
 use Rattle.sot_tube.specs.Tubes.{TubeInside, AnyTubeInside}
 use Rattle.sot_tube.specs.Certified.{DraftsFrom, command_intervals, IsClosedCell, IsReachCell}
-use Rattle.sot_halving.proofs.Covering.{failing_each}
+use Rattle.sot_certify.proofs.Covering.{failing_each}
 use Rattle.sot_certify.specs.Made.{IsGood, FailsAt}
 use Rattle.sot_certify.specs.Laws.{TubesOfFailingPointsLeave}
 

@@ -9,3 +9,13 @@ pub mod Taking
 pub mod Certified
 pub mod Entries
 pub mod Exact
+pub mod Filling
+pub mod Findings
+pub mod Widest
+pub mod Cuts
+pub mod Agreement
+pub mod Covering
+pub mod Stack
+pub mod Effort
+pub mod Worked
+pub mod WorkedFindings

@@ -10,7 +10,7 @@ use Rattle.sot_lang.specs.TableRules.{MeetsTableRules}
 use Rattle.sot_lang.specs.Ranges.{input_ranges}
 use Rattle.sot_tube.specs.Certified.{command_intervals}
 use Rattle.sot_tube.proofs.VerdictExact.{drafts_same}
-use Rattle.sot_halving.proofs.Covering.{failing_each}
+use Rattle.sot_certify.proofs.Covering.{failing_each}
 use Rattle.sot_certify.specs.declared.fail.CertifyFail.{CertifyFail}
 use Rattle.sot_certify.specs.declared.fail.CertifyFail.TheVariants.{Refused, Point, TooMany, Memory}
 use Rattle.sot_certify.specs.Conditions.{without_cells}

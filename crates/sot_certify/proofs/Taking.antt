@@ -13,10 +13,10 @@ use Rattle.sot_lang.specs.declared.tables.ModuleInfo.{ModuleInfo}
 use Rattle.sot_lang.specs.Tables.{Tables}
 use Rattle.sot_lang.specs.OwnerNames.{width_of}
 use Rattle.sot_lang.specs.TableRules.{MeetsTableRules}
-use Rattle.sot_halving.specs.Cuts.{IsOnePoint}
-use Rattle.sot_halving.specs.Findings.{Whole, Failing, Begun, BisectsEach}
-use Rattle.sot_halving.proofs.Stack.{IsUnderWay, starts, more_cells, more_boxes, is_whole, is_failing, is_begun}
-use Rattle.sot_halving.proofs.Effort.{effort, effort_less, effort_falls}
+use Rattle.sot_certify.specs.Cuts.{IsOnePoint}
+use Rattle.sot_certify.specs.Findings.{Whole, Failing, Begun, BisectsEach}
+use Rattle.sot_certify.proofs.Stack.{IsUnderWay, starts, more_cells, more_boxes, is_whole, is_failing, is_begun}
+use Rattle.sot_certify.proofs.Effort.{effort, effort_less, effort_falls}
 use Rattle.sot_certify.specs.declared.listing.ListFail.{ListFail}
 use Rattle.sot_certify.specs.declared.listing.ListFail.TheVariants as fails
 use Rattle.sot_certify.specs.Made.{IsGood, region_of, IsMade}

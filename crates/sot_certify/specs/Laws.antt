@@ -12,8 +12,8 @@ use Rattle.sot_lang.specs.declared.tables.ModuleInfo.{ModuleInfo}
 use Rattle.sot_lang.specs.Tables.{Tables}
 use Rattle.sot_lang.specs.TableRules.{MeetsTableRules, IsCoded}
 use Rattle.sot_iv.specs.BodyIntervals.{Intervals}
-use Rattle.sot_halving.specs.Findings.{Finding}
-use Rattle.sot_halving.specs.Laws.{Agree}
+use Rattle.sot_certify.specs.Findings.{Finding}
+use Rattle.sot_certify.specs.HalvingLaws.{Agree}
 use Rattle.sot_tube.specs.Tubes.{TubeInside, AnyTubeInside}
 use Rattle.sot_tube.specs.Certified.{HasCells, DraftsFrom, command_intervals}
 use Rattle.sot_tube.specs.Refusals.{Refusal}

@@ -1,9 +1,12 @@
--- what the contract of `certify` rests on
+-- between the crate's own functions
 pub mod Conditions
 pub mod Made
 pub mod Certifying
 pub mod Points
--- the laws
 pub mod Laws
--- what the functions inside the crate promise each other
 pub mod Steps
+pub mod Cuts
+pub mod Findings
+pub mod Widest
+pub mod HalvingLaws
+pub mod Examples

@@ -11,7 +11,7 @@ use Rattle.sot_lang.specs.declared.tables.ModuleInfo.{ModuleInfo}
 use Rattle.sot_lang.specs.Tables.{Tables}
 use Rattle.sot_lang.specs.TableRules.{IsCoded}
 use Rattle.sot_tube.specs.Certified.{IsClosedCell, IsReachCell}
-use Rattle.sot_halving.specs.Findings.{Finding, Whole, Failing, Begun, BisectsEach}
+use Rattle.sot_certify.specs.Findings.{Finding, Whole, Failing, Begun, BisectsEach}
 
 -- a box is good as a closed cell, or as a reach cell, of the module
 abbrev pub IsGood : Tables → ModuleInfo → Bool → List Side → Type 0

@@ -9,7 +9,7 @@ use Rattle.sot_lang.specs.declared.cert.Cells.{Cells}
 use Rattle.sot_lang.specs.declared.tables.ModuleInfo.{ModuleInfo}
 use Rattle.sot_lang.specs.Tables.{Tables}
 use Rattle.sot_lang.specs.CertRules.{AreCellsOf}
-use Rattle.sot_halving.specs.Cuts.{IsOnePoint, AreHalves}
+use Rattle.sot_certify.specs.Cuts.{IsOnePoint, AreHalves}
 use Rattle.sot_certify.specs.declared.fail.CertifyFail.{CertifyFail}
 use Rattle.sot_certify.specs.declared.fail.CertifyFail.TheVariants.{Refused, Point, TooMany, Memory}
 use Rattle.sot_certify.specs.declared.listing.ListFail.{ListFail}

@@ -5,7 +5,7 @@ ghost use Rattle.std.specs.Prelude.{IfOk, IfErr, OnOk, MatchResult};
 ghost use Rattle.sot_lists.specs.Places.{At};
 ghost use Rattle.sot_box.specs.Sides.{Side, AreOrdered};
 ghost use Rattle.sot_box.specs.Boxes.{lows};
-ghost use Rattle.sot_halving.specs.Cuts.{IsOnePoint, AreHalves};
+ghost use Rattle.sot_certify.specs.Cuts.{IsOnePoint, AreHalves};
 ghost use Rattle.sot_lang.specs.OwnerNames.{width_of};
 ghost use Rattle.sot_lang.specs.TableRules.{MeetsTableRules};
 ghost use Rattle.sot_rta.specs.Cells.{MayHaveCells};
@@ -15,8 +15,8 @@ ghost use Rattle.sot_certify.specs.declared.listing.ListFail.TheVariants.{Point 
 ghost use Rattle.sot_certify.specs.declared.listing.ListFail.TheVariants.{TooMany, Memory};
 
 use crate::good::is_good;
+use crate::halves::{halves_of, low_corner};
 use sot_box::{BoxN, Point, Region};
-use sot_halving::{halves_of, low_corner};
 use sot_lang::{ModuleInfo, Typed};
 use sot_rta::plant_at;
 use std::alloc::{AllocError, AllocFailed, Global};

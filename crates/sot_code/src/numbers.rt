@@ -8,8 +8,8 @@ ghost use Rattle.sot_lang.specs.Values.{word, trap, quotient, floor_div, floor_b
 ghost use Rattle.sot_lang.specs.Values.{truth, is_true};
 
 use sot_lang::{Trap, TrapKind, floor};
+use sot_syntax_tree::Op;
 use sot_text::Span;
-use sot_tree::Op;
 
 /// The number, if it is in 64 bits.
 pub fn fit(at: Span, wide: i128) -> Result<i64, Trap>

@@ -4,13 +4,13 @@ ghost use Rattle.std.specs.Prelude.{◌≡◌, ◌≤◌, ◌≤ℤ◌, ◌-ℤ�
 ghost use Rattle.sot_lang.specs.Values.{value_of, then_with, word, truth, is_true, floor_div};
 ghost use Rattle.sot_lang.specs.Values.{rescaled as at_scale, called};
 ghost use Rattle.sot_lang.specs.Ticks.{values};
-ghost use Rattle.sot_tree.specs.Functions.{arity};
+ghost use Rattle.sot_syntax_tree.specs.Functions.{arity};
 ghost use Rattle.sot_lang.specs.TermPlaces.{HasPlaces, HavePlaces};
 
 use crate::numbers::{clamped, holds, magnitude, negate, operate, rescale, rest, truth_value};
 use sot_lang::{Term, Trap};
+use sot_syntax_tree::Func;
 use sot_text::Span;
-use sot_tree::Func;
 
 // The value of an expression, or the first trap. Numbers and names are answered first: a function
 // pays at its entry for the room that it needs.

@@ -4,7 +4,7 @@ use Rattle.std.specs.Prelude.{IfOk}
 use Rattle.std.specs.declared.alloc.AllocError.{AllocError}
 use Rattle.sot_sections.specs.declared.mission.Need.TheVariants as needs
 use Rattle.sot_sections.specs.Sections.{Parts, split_of}
-use Rattle.sot_tree.specs.Trees.{Program}
+use Rattle.sot_syntax_tree.specs.Trees.{Program}
 use Rattle.sot_lang.specs.Tables.{Tables}
 use Rattle.sot_lang.specs.declared.cert.Cert.{Cert}
 use Rattle.sot_parser.specs.Programs.{Spells}
@@ -15,9 +15,9 @@ use Rattle.sot_parser.proofs.ProgramTexts.{spells_unique}
 use Rattle.sot_rules.specs.declared.fault.TypeFault.{TypeFault}
 use Rattle.sot_rules.specs.First.{IsFirstFault}
 use Rattle.sot_print.specs.Canonical.{canonical}
-use Rattle.sot_law_format.specs.Unplaced.{AreSame}
-use Rattle.sot_law_format.proofs.Canonical.{canonical_text}
-use Rattle.sot_law_format.proofs.FormedPrograms.{spelled_formed}
+use Rattle.sot_law_print_parse.specs.Unplaced.{AreSame}
+use Rattle.sot_law_print_parse.proofs.Canonical.{canonical_text}
+use Rattle.sot_law_print_parse.proofs.FormedPrograms.{spelled_formed}
 use Rattle.sot_certify.specs.declared.fail.CertifyFail.{CertifyFail}
 use Rattle.sot_certify.specs.declared.fail.CertifyFail.TheVariants.{Memory}
 use Rattle.sot_certify.specs.Certifying.{Certifies}
@@ -28,7 +28,7 @@ use Rattle.sot_certified_text.proofs.Lines.{texts_divide}
 use Rattle.sot_report.specs.declared.fault.Fault.TheVariants as faults
 use Rattle.sot_report.specs.Missions.{Mission, SpellsNone, Resolves, HasFault}
 use Rattle.sot_report.specs.FaultTexts.{type_text, syntax_text}
-use Rattle.sot_program_answers.specs.declared.answer.Answer.{Answer}
+use Rattle.sot_cli.specs.declared.answer.Answer.{Answer}
 use Rattle.sot_commands.specs.declared.words.Command.TheVariants.{Certify}
 use Rattle.sot_commands.specs.Answers.{SpellsFor, IsCertifiedText, IsRefusedFor, SpellsAccepted, SpellsAcceptedOf, Replies}
 use Rattle.sot_commands.specs.Steps.{IsWritten, CertifiesTables, CertifiesTree}

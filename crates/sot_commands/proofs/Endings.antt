@@ -4,8 +4,8 @@ use Rattle.std.specs.Prelude.{◌⊎◌, ◌≢◌, String, IfSome}
 use Rattle.std.proofs.lemmas.List.{length-append}
 use Rattle.std.specs.Io.KnownBytes.{Keeps}
 use Rattle.sot_ports.specs.Faults.{Rose}
-use Rattle.sot_program_answers.specs.Texts.{input_limit}
-use Rattle.sot_program_answers.proofs.Endings.{Texts, Says, EndsSaying, ends_saying, calm_status, ends_unsaid, never_unsaid}
+use Rattle.sot_cli.specs.Texts.{input_limit}
+use Rattle.sot_cli.proofs.Endings.{Texts, Says, EndsSaying, ends_saying, calm_status, ends_unsaid, never_unsaid}
 use Rattle.sot_commands.specs.declared.words.Command.{Command}
 use Rattle.sot_commands.specs.declared.words.Command.TheVariants.{Check, Fly, Replay, Recover, Watch, Format, Certify, Make, Soak}
 use Rattle.sot_commands.specs.Words.{AsksReader}

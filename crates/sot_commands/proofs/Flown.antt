@@ -16,7 +16,7 @@ use Rattle.sot_flight.specs.Plans.{Plan}
 use Rattle.sot_board.specs.Flown.{Position, IsStart, FlownBy}
 use Rattle.sot_board.specs.Standing.{Standing}
 use Rattle.sot_report.specs.Missions.{Mission, SaysFlight}
-use Rattle.sot_program_answers.specs.declared.answer.Answer.{Answer}
+use Rattle.sot_cli.specs.declared.answer.Answer.{Answer}
 use Rattle.sot_commands.specs.Answers.{IsOutsideOf, SpellsFor}
 use Rattle.sot_commands.specs.declared.telling.Telling.{Telling}
 use Rattle.sot_commands.specs.declared.telling.Telling.TheVariants.{Trace, Summary, Verdict}

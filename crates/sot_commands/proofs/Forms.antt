@@ -3,7 +3,7 @@ use Rattle.std.proofs.Common.{◌≡◌, ℕ, List, Some, Result, Ok, Err, inl, 
 use Rattle.std.specs.Prelude.{IfOk, ◌≢◌}
 use Rattle.std.specs.declared.alloc.AllocError.{AllocError}
 use Rattle.sot_sections.specs.declared.mission.Need.TheVariants as needs
-use Rattle.sot_tree.specs.Trees.{Program}
+use Rattle.sot_syntax_tree.specs.Trees.{Program}
 use Rattle.sot_lang.specs.Tables.{Tables}
 use Rattle.sot_lang.specs.declared.cert.Cert.{Cert}
 use Rattle.sot_parser.specs.Programs.{Spells}
@@ -21,7 +21,7 @@ use Rattle.sot_report.specs.Missions.{Mission, SpellsNone, HasFault}
 use Rattle.sot_report.specs.FaultTexts.{fault_text, syntax_text}
 use Rattle.sot_report.specs.RefusalTexts.{refusal_text}
 use Rattle.sot_report.specs.AcceptedTexts.{accepted_text}
-use Rattle.sot_program_answers.specs.declared.answer.Answer.{Answer}
+use Rattle.sot_cli.specs.declared.answer.Answer.{Answer}
 use Rattle.sot_commands.specs.declared.words.Command.TheVariants.{Check, Format}
 use Rattle.sot_formula.specs.declared.fail.MonitorFail.{MonitorFail}
 use Rattle.sot_formula.specs.declared.fail.MonitorFail.TheVariants as monitor_fails

@@ -7,7 +7,7 @@ use Rattle.sot_lang.specs.declared.tables.StateInfo.{StateInfo}
 use Rattle.sot_lang.specs.Tables.{Tables}
 use Rattle.sot_lang.specs.TableRules.{MeetsTableRules}
 use Rattle.sot_typing.specs.Resolved.{ProgramTables, PlantTable, tables_seen}
-use Rattle.sot_law_same_tables.proofs.Seen.{scalar_back, module_back, plant_back}
+use Rattle.sot_law_equal_tables.proofs.Seen.{scalar_back, module_back, plant_back}
 use Rattle.sot_formula.specs.declared.quantity.Quantity.{Quantity}
 use Rattle.sot_formula.specs.declared.fail.MonitorFail.{MonitorFail}
 use Rattle.sot_formula.specs.declared.fail.MonitorFail.TheVariants as fails

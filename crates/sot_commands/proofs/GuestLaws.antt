@@ -10,8 +10,8 @@ use Rattle.sot_commands.specs.Guests.{GuestsFlew, Flew, UnnamedStay}
 use Rattle.sot_commands.specs.Steps.{GuestsStand, GuestsDid}
 use Rattle.sot_commands.proofs.Guests.{did_mapped}
 use Rattle.sot_sections.specs.declared.mission.Need.TheVariants as needs
-use Rattle.sot_law_one_trace.proofs.OneHistory.{one_history}
-use Rattle.sot_node_worker.specs.Askings.{Asking}
+use Rattle.sot_law_trace_unique.proofs.OneHistory.{one_history}
+use Rattle.sot_fly_worker.specs.Askings.{Asking}
 use Rattle.sot_commands.specs.GuestLaws.{FlewOnce}
 use Rattle.sot_commands.proofs.OneAnswer.{flight_same}
 

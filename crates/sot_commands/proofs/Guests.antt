@@ -16,12 +16,12 @@ use Rattle.sot_flight.specs.Plans.{Plan, Crew, Coded, Script, Wild, Guest}
 use Rattle.sot_board.specs.Flown.{FlownBy}
 use Rattle.sot_trace.specs.Traces.{trace_text}
 use Rattle.sot_board.specs.Standing.{Standing}
-use Rattle.sot_node_worker.specs.Askings.{Asking}
-use Rattle.sot_node_worker.specs.Answers.{Answered}
+use Rattle.sot_fly_worker.specs.Askings.{Asking}
+use Rattle.sot_fly_worker.specs.Answers.{Answered}
 use Rattle.sot_flight.specs.Fits.{FitsFlight}
 use Rattle.sot_workers.specs.Asked.{EachAnswered, EachUnnamedStays}
 use Rattle.sot_workers.specs.Flying.{HasNoGuests}
-use Rattle.sot_program_answers.specs.declared.answer.Answer.{Answer}
+use Rattle.sot_cli.specs.declared.answer.Answer.{Answer}
 use Rattle.sot_commands.specs.declared.telling.Telling.{Telling}
 use Rattle.sot_commands.specs.declared.telling.Telling.TheVariants.{Trace, Summary, Verdict}
 use Rattle.sot_commands.specs.WatchTexts.{holds_text, fails_text}

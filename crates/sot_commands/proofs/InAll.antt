@@ -2,7 +2,7 @@
 use Rattle.std.proofs.Common.{◌≡◌, ℕ, List, [], ◌++◌, Result, Ok, Err, refl}
 use Rattle.std.specs.Prelude.{IfOk}
 use Rattle.std.specs.declared.alloc.AllocError.{AllocError}
-use Rattle.sot_program_answers.specs.declared.answer.Answer.{Answer}
+use Rattle.sot_cli.specs.declared.answer.Answer.{Answer}
 use Rattle.sot_commands.specs.Steps.{SaysInAll}
 
 module _ {O : Type 0} (puts : O → O → List ℕ → Type 0) where

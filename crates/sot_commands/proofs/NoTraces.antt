@@ -14,7 +14,7 @@ use Rattle.sot_report.specs.declared.fault.Fault.{Fault}
 use Rattle.sot_report.specs.declared.fault.Fault.TheVariants as faults
 use Rattle.sot_report.specs.FaultTexts.{fault_text}
 use Rattle.sot_report.specs.RefusalTexts.{refusal_text}
-use Rattle.sot_program_answers.specs.declared.answer.Answer.{Answer}
+use Rattle.sot_cli.specs.declared.answer.Answer.{Answer}
 use Rattle.sot_commands.specs.Answers.{IsOutsideOf}
 use Rattle.sot_commands.specs.Guests.{IsNoTrace}
 use Rattle.sot_commands.specs.WatchTexts.{formula_text}

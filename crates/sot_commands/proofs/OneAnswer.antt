@@ -12,13 +12,13 @@ use Rattle.sot_print.specs.Canonical.{canonical}
 use Rattle.sot_lang.specs.Tables.{Tables}
 use Rattle.sot_lang.specs.declared.tables.ModuleInfo.{ModuleInfo}
 use Rattle.sot_typing.specs.Resolved.{tables_seen}
-use Rattle.sot_law_same_tables.proofs.Seen.{modules_same}
+use Rattle.sot_law_equal_tables.proofs.Seen.{modules_same}
 use Rattle.sot_cert.specs.CertFormat.{Contents}
 use Rattle.sot_flight.specs.Plans.{Plan}
 use Rattle.sot_tube.proofs.VerdictExact.{verdict_exact}
-use Rattle.sot_law_same_certificate.proofs.Refusals.{refusals_alike}
-use Rattle.sot_law_same_certificate.proofs.Certify.{fails_alike}
-use Rattle.sot_law_same_certificate.proofs.Entries.{entries_alike}
+use Rattle.sot_law_equal_verdicts.proofs.Refusals.{refusals_alike}
+use Rattle.sot_law_equal_verdicts.proofs.Certify.{fails_alike}
+use Rattle.sot_law_equal_verdicts.proofs.Entries.{entries_alike}
 use Rattle.sot_world.specs.HistoryEntry.{Logged}
 use Rattle.sot_world.specs.Opens.{IsFirstOutside}
 use Rattle.sot_replay.proofs.OneAnswer.{refused_once, traced_once}

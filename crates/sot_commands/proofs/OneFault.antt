@@ -7,7 +7,7 @@ use Rattle.sot_sections.specs.declared.mission.Need.TheVariants as needs
 use Rattle.sot_sections.specs.declared.mission.SectionFault.{SectionFault}
 use Rattle.sot_sections.specs.Sections.{Parts, split_of}
 use Rattle.sot_text.specs.Ahead.{Ahead, ahead_from}
-use Rattle.sot_tree.specs.Trees.{Program}
+use Rattle.sot_syntax_tree.specs.Trees.{Program}
 use Rattle.sot_parser.specs.Programs.{Spells}
 use Rattle.sot_parser.specs.declared.syntax.Syntax.{Syntax}
 use Rattle.sot_parser.specs.declared.syntax.Syntax.TheVariants.{Lex, Token, Deep}
@@ -21,7 +21,7 @@ use Rattle.sot_rules.specs.declared.fault.TypeKind.TheVariants.{RangeWide, NoMod
 use Rattle.sot_rules.specs.First.{number_of, IsFirstFault, IsFaultless}
 use Rattle.sot_lang.specs.Tables.{Tables}
 use Rattle.sot_typing.specs.Resolved.{tables_seen}
-use Rattle.sot_law_same_tables.proofs.Flights.{flights_alike}
+use Rattle.sot_law_equal_tables.proofs.Flights.{flights_alike}
 use Rattle.sot_json.specs.declared.fault.JsonFault.{JsonFault}
 use Rattle.sot_cert.specs.CertFormat.{cert_of}
 use Rattle.sot_maker.specs.Missions.{mission_text as made_text}

@@ -11,8 +11,8 @@ use Rattle.sot_lang.specs.declared.tables.TopicInfo.{TopicInfo}
 use Rattle.sot_lang.specs.declared.tables.ModuleInfo.{ModuleInfo}
 use Rattle.sot_lang.specs.Tables.{Tables}
 use Rattle.sot_typing.specs.Resolved.{ProgramTables, PlantTable, NodeTable, plant_seen, node_seen, tables_seen}
-use Rattle.sot_law_same_tables.proofs.Seen.{modules_same, plants_seen_same, nodes_seen_same}
-use Rattle.sot_law_one_trace.proofs.Looks.{looked}
+use Rattle.sot_law_equal_tables.proofs.Seen.{modules_same, plants_seen_same, nodes_seen_same}
+use Rattle.sot_law_trace_unique.proofs.Looks.{looked}
 use Rattle.sot_tube.specs.Refusals.{Refusal, Periods, Outputs, EmptyRegion, ClosedGap, ClosedTrap, ClosedLeaves, ReachGap, ReachLeaves, ReachTrap, SharedNode}
 use Rattle.sot_tube.specs.Refusals.{SharedOutput, SharedPlant, ForeignInput, CodeMayTrap, NoCells}
 use Rattle.sot_rta.specs.Refused.{refusal_view}

@@ -7,7 +7,7 @@ use Rattle.sot_ports.specs.Whole.{ReadsAll}
 use Rattle.sot_flight.specs.Plans.{Plan}
 use Rattle.sot_report.specs.Missions.{Mission}
 use Rattle.sot_sections.specs.declared.mission.Need.TheVariants as needs
-use Rattle.sot_node_worker.specs.Askings.{Asking}
+use Rattle.sot_fly_worker.specs.Askings.{Asking}
 use Rattle.sot_commands.specs.declared.words.Command.{Command}
 use Rattle.sot_commands.specs.declared.words.Command.TheVariants.{Check, Fly, Replay, Recover, Watch, Format, Certify, Make, Soak}
 use Rattle.sot_commands.specs.declared.telling.Telling.{Telling}

@@ -16,7 +16,7 @@ use Rattle.sot_report.specs.RefusalTexts.{gap_line, refusal_text}
 use Rattle.sot_recovery_text.specs.Recovery.{FirstNever, IfNeverAt, IsNeverAt}
 use Rattle.sot_recovery_text.specs.declared.fail.RecoveryFail.{RecoveryFail}
 use Rattle.sot_recovery_text.specs.declared.fail.RecoveryFail.TheVariants.{Never, Memory}
-use Rattle.sot_program_answers.specs.declared.answer.Answer.{Answer}
+use Rattle.sot_cli.specs.declared.answer.Answer.{Answer}
 use Rattle.sot_commands.specs.declared.words.Command.TheVariants.{Recover}
 use Rattle.sot_commands.specs.Answers.{SpellsFor, Replies}
 use Rattle.sot_commands.specs.Steps.{SaysRecovery, JudgesRecovery}

@@ -26,14 +26,14 @@ use Rattle.sot_trace_lines.specs.LentLines.{lent_lines}
 use Rattle.sot_replay.specs.GoesOn.{IsTraceOf}
 use Rattle.sot_replay.specs.Replays.{IsRefusedAt}
 use Rattle.sot_replay.specs.declared.fail.LineKind.{LineKind}
-use Rattle.sot_law_one_trace.proofs.Named.{names}
-use Rattle.sot_law_one_trace.proofs.Looks.{trace_lines_same}
-use Rattle.sot_law_same_flights.proofs.Histories.{whole}
+use Rattle.sot_law_trace_unique.proofs.Named.{names}
+use Rattle.sot_law_trace_unique.proofs.Looks.{trace_lines_same}
+use Rattle.sot_law_equal_flights.proofs.Histories.{whole}
 use Rattle.sot_report.specs.declared.fault.Fault.{Fault}
 use Rattle.sot_report.specs.Missions.{Mission, SaysFlight, HasFault}
 use Rattle.sot_report.specs.FaultTexts.{fault_text}
 use Rattle.sot_report.specs.RefusalTexts.{refusal_text}
-use Rattle.sot_program_answers.specs.declared.answer.Answer.{Answer}
+use Rattle.sot_cli.specs.declared.answer.Answer.{Answer}
 use Rattle.sot_commands.specs.declared.words.Command.TheVariants.{Replay}
 use Rattle.sot_commands.specs.ReplayTexts.{legal_text, refused_line_text}
 use Rattle.sot_commands.specs.Answers.{IsOutsideOf, SpellsFor, Replies}

@@ -9,7 +9,7 @@ use Rattle.sot_ports.specs.Outside.{Written}
 use Rattle.sot_text_output.specs.Spools.{IsSpooled, Arrives, ArrivesInPart}
 use Rattle.sot_text_output.specs.declared.spool.Spool.{Spool}
 use Rattle.sot_text_output.specs.SpoolViews.{spooling, Puts}
-use Rattle.sot_program_answers.specs.declared.answer.Answer.{Answer}
+use Rattle.sot_cli.specs.declared.answer.Answer.{Answer}
 use Rattle.sot_commands.specs.Steps.{SaysInAll}
 
 -- all of the first was taken, and of the second all, or a front

@@ -8,7 +8,7 @@ use Rattle.sot_box.specs.Regions.{IsInRegion}
 use Rattle.sot_sections.specs.declared.mission.Need.{Need}
 use Rattle.sot_sections.specs.declared.mission.Need.TheVariants as needs
 use Rattle.sot_sections.specs.Sections.{Parts, split_of}
-use Rattle.sot_tree.specs.Trees.{Program}
+use Rattle.sot_syntax_tree.specs.Trees.{Program}
 use Rattle.sot_lang.specs.Tables.{Tables}
 use Rattle.sot_parser.specs.Programs.{Spells}
 use Rattle.sot_parser.proofs.ProgramTexts.{spells_unique}
@@ -23,19 +23,19 @@ use Rattle.sot_replay.specs.GoesOn as goes_on
 use Rattle.sot_replay.specs.Replays.{IsRefusedAt}
 use Rattle.sot_replay.specs.declared.fail.LineKind.{LineKind}
 use Rattle.sot_replay.proofs.OneAnswer.{traces_are_not_refused}
-use Rattle.sot_program_answers.specs.Texts.{input_limit}
+use Rattle.sot_cli.specs.Texts.{input_limit}
 use Rattle.sot_commands.proofs.Replayed.{traced_alike}
 use Rattle.sot_flight.specs.FlightFormat.{flight_of}
 use Rattle.sot_tube.specs.Certified.{IsWellCertified}
 use Rattle.sot_tube.specs.Refusals.{Refusal}
 use Rattle.sot_tube.proofs.Acceptance.{certified_passes}
 use Rattle.sot_tube.proofs.VerdictExact.{verdict_exact}
-use Rattle.sot_law_same_tables.proofs.Certificates.{certificates_alike}
-use Rattle.sot_law_same_tables.proofs.Certified.{certified_alike}
-use Rattle.sot_law_same_tables.proofs.Seen.{modules_same}
-use Rattle.sot_law_same_tables.proofs.Flights.{flights_alike}
-use Rattle.sot_law_same_certificate.proofs.Certify.{certify_alike}
-use Rattle.sot_law_same_ranks.specs.Laws.{LookTheSame}
+use Rattle.sot_law_equal_tables.proofs.Certificates.{certificates_alike}
+use Rattle.sot_law_equal_tables.proofs.Certified.{certified_alike}
+use Rattle.sot_law_equal_tables.proofs.Seen.{modules_same}
+use Rattle.sot_law_equal_tables.proofs.Flights.{flights_alike}
+use Rattle.sot_law_equal_verdicts.proofs.Certify.{certify_alike}
+use Rattle.sot_law_equal_ranks.specs.Laws.{LookTheSame}
 use Rattle.sot_recovery_text.proofs.Alike.{told_once}
 use Rattle.sot_world.specs.Opens.{StartInside, IsFirstOutside}
 use Rattle.sot_report.specs.declared.fault.Fault.{Fault}

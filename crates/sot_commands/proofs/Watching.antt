@@ -16,7 +16,7 @@ use Rattle.sot_formula.specs.Parts.{AreThere}
 use Rattle.sot_monitor.specs.Holding.{AlwaysHolds, FirstFails}
 use Rattle.sot_monitor.specs.Tracked.{Tracked}
 use Rattle.sot_monitor.specs.Tracking.{StandsFor}
-use Rattle.sot_watch.specs.Moments.{moments_told}
+use Rattle.sot_monitor.specs.Moments.{moments_told}
 use Rattle.sot_commands.specs.declared.telling.Telling.{Telling}
 use Rattle.sot_commands.specs.declared.telling.Telling.TheVariants.{Trace, Summary, Verdict}
 use Rattle.sot_commands.specs.WatchTexts.{holds_text, fails_text}

@@ -2,7 +2,7 @@
 use Rattle.std.specs.Prelude.{◌≡◌, ◌≢◌, ℕ, ◌⊎◌, List, [], Some, Ok, Err, length}
 use Rattle.sot_sections.specs.declared.mission.Need.{Need}
 use Rattle.sot_sections.specs.declared.mission.Need.TheVariants as needs
-use Rattle.sot_tree.specs.Trees.{Program}
+use Rattle.sot_syntax_tree.specs.Trees.{Program}
 use Rattle.sot_parser.specs.Programs.{Spells}
 use Rattle.sot_text.specs.Ahead.{ahead_from}
 use Rattle.sot_parser.specs.declared.syntax.Syntax.{Syntax}
@@ -33,7 +33,7 @@ use Rattle.sot_lang.specs.Tables.{Tables}
 use Rattle.sot_lang.specs.declared.cert.Cert.{Cert}
 use Rattle.sot_lang.specs.CertRules.{FitsTables}
 use Rattle.sot_rules.specs.First.{IsFirstFault}
-use Rattle.sot_law_format.specs.Unplaced.{AreSame}
+use Rattle.sot_law_print_parse.specs.Unplaced.{AreSame}
 use Rattle.sot_certify.specs.declared.fail.CertifyFail.{CertifyFail}
 use Rattle.sot_certify.specs.declared.fail.CertifyFail.TheVariants.{Memory}
 use Rattle.sot_certify.specs.Certifying.{Certifies}
@@ -48,7 +48,7 @@ use Rattle.sot_report.specs.Missions.{Mission, SpellsMission, SpellsNone, Resolv
 use Rattle.sot_report.specs.FaultTexts.{fault_text, syntax_text}
 use Rattle.sot_report.specs.RefusalTexts.{refusal_text}
 use Rattle.sot_report.specs.AcceptedTexts.{accepted_text}
-use Rattle.sot_program_answers.specs.Starts.{IsOutsideLine}
+use Rattle.sot_cli.specs.Starts.{IsOutsideLine}
 use Rattle.sot_commands.specs.declared.words.Command.{Command}
 use Rattle.sot_commands.specs.declared.words.Command.TheVariants.{Check, Fly, Replay, Format}
 use Rattle.sot_commands.specs.declared.words.Command.TheVariants.{Recover, Watch, Certify}

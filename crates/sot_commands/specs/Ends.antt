@@ -6,7 +6,7 @@ use Rattle.std.proofs.Common.{Global}
 use Rattle.sot_ports.specs.Faults.{Rose}
 use Rattle.sot_ports.specs.Outside.{Outside, Writes, WritesPart}
 use Rattle.sot_ports.specs.Whole.{ReadsAll, ReadsCount}
-use Rattle.sot_program_answers.specs.Texts.{input_limit, long_text}
+use Rattle.sot_cli.specs.Texts.{input_limit, long_text}
 use Rattle.sot_commands.specs.Texts.{usage_text}
 use Rattle.sot_commands.specs.declared.words.Command.{Command}
 use Rattle.sot_commands.specs.declared.words.Command.TheVariants.{Check, Fly, Replay, Format}

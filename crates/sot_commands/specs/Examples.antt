@@ -1,6 +1,6 @@
 -- Worked lists of askings: which are told on.
 use Rattle.std.specs.Prelude.{pos, [], ◌∷◌, None, Some}
-use Rattle.sot_node_worker.specs.Askings.{Asking, asking}
+use Rattle.sot_fly_worker.specs.Askings.{Asking, asking}
 use Rattle.sot_commands.specs.Guests.{TellsOn}
 
 abbrev pub one : Asking

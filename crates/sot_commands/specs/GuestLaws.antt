@@ -2,8 +2,8 @@
 use Rattle.std.specs.Prelude.{◌≡◌, ◌⊎◌, ℕ, ℤ, List, ◌++◌, Option, Some}
 use Rattle.sot_lists.specs.Places.{At}
 use Rattle.sot_flight.specs.Plans.{Guest}
-use Rattle.sot_node_worker.specs.Askings.{Asking}
-use Rattle.sot_node_worker.specs.Answers.{HasAnswered}
+use Rattle.sot_fly_worker.specs.Askings.{Asking}
+use Rattle.sot_fly_worker.specs.Answers.{HasAnswered}
 use Rattle.sot_workers.specs.Flying.{IsUnnamed}
 use Rattle.sot_lang.specs.Tables.{Tables}
 use Rattle.sot_world.specs.HistoryEntry.{Logged}

@@ -8,8 +8,8 @@ use Rattle.sot_lang.specs.Tables.{Tables}
 use Rattle.sot_world.specs.HistoryEntry.{Logged}
 use Rattle.sot_flight.specs.Plans.{Plan, Guest}
 use Rattle.sot_board.specs.Flown.{FlownBy}
-use Rattle.sot_node_worker.specs.Askings.{Asking}
-use Rattle.sot_node_worker.specs.Answers.{Answered}
+use Rattle.sot_fly_worker.specs.Askings.{Asking}
+use Rattle.sot_fly_worker.specs.Answers.{Answered}
 use Rattle.sot_trace.specs.Lines.{header}
 use Rattle.sot_trace.specs.Traces.{trace_text}
 use Rattle.sot_report.specs.Missions.{Mission}

@@ -8,14 +8,14 @@ use Rattle.sot_maker.specs.Missions.{mission_text as made_text}
 use Rattle.sot_report.specs.declared.fault.Fault.{Fault}
 use Rattle.sot_report.specs.Missions.{HasFault}
 use Rattle.sot_report.specs.FaultTexts.{fault_text}
-use Rattle.sot_program_answers.specs.Texts.{input_limit}
+use Rattle.sot_cli.specs.Texts.{input_limit}
 use Rattle.sot_commands.specs.declared.words.Command.{Command}
 use Rattle.sot_commands.specs.declared.words.Command.TheVariants.{Check, Fly, Replay, Format}
 use Rattle.sot_commands.specs.declared.words.Command.TheVariants.{Recover, Watch, Certify}
 use Rattle.sot_commands.specs.declared.words.Command.TheVariants.{Make, Soak}
 use Rattle.sot_commands.specs.declared.telling.Telling.{Telling}
 use Rattle.sot_commands.specs.declared.telling.Telling.TheVariants.{Trace, Summary, Verdict}
-use Rattle.sot_program_answers.specs.declared.status.Status.{Status}
+use Rattle.sot_cli.specs.declared.status.Status.{Status}
 use Rattle.sot_commands.specs.declared.order.FlightOrder.{FlightOrder}
 use Rattle.sot_commands.specs.declared.order.Begun.{Begun}
 use Rattle.sot_commands.specs.declared.order.Begun.TheVariants.{Ended, Flight}

@@ -4,7 +4,7 @@ use Rattle.std.specs.Prelude.{None, Some, length, vec_len, String}
 use Rattle.std.proofs.Common.{Global}
 use Rattle.std.specs.Global.{Vec}
 use Rattle.std.specs.declared.alloc.AllocError.{AllocError}
-use Rattle.sot_node_worker.specs.Askings.{Asking}
+use Rattle.sot_fly_worker.specs.Askings.{Asking}
 use Rattle.sot_ports.specs.Whole.{ReadsCount}
 use Rattle.sot_lang.specs.Tables.{Tables}
 use Rattle.sot_lang.specs.declared.cert.Cert.{Cert}
@@ -24,7 +24,7 @@ use Rattle.sot_report.specs.Missions.{Resolves}
 use Rattle.sot_recovery_text.specs.Recovery.{AllRecover, SomeNever}
 use Rattle.sot_rules.specs.declared.fault.TypeFault.{TypeFault}
 use Rattle.sot_rules.specs.First.{IsFirstFault}
-use Rattle.sot_tree.specs.Trees.{Program}
+use Rattle.sot_syntax_tree.specs.Trees.{Program}
 use Rattle.sot_parser.specs.Programs.{Spells}
 use Rattle.sot_certified_text.specs.ReadAgain.{IsCertificateOf, written}
 use Rattle.sot_formula.specs.Formulas.{Formula}
@@ -33,8 +33,8 @@ use Rattle.sot_formula.specs.declared.fail.MonitorFail.{MonitorFail}
 use Rattle.sot_formula.specs.declared.fail.MonitorFail.TheVariants as monitor_fails
 use Rattle.sot_monitor.specs.Tracked.{Tracked}
 use Rattle.sot_monitor.specs.Tracking.{IsNewOf}
-use Rattle.sot_program_answers.specs.Texts.{input_limit, long_text}
-use Rattle.sot_program_answers.specs.Steps.{SilentWhere}
+use Rattle.sot_cli.specs.Texts.{input_limit, long_text}
+use Rattle.sot_cli.specs.Steps.{SilentWhere}
 use Rattle.sot_commands.specs.Watched.{IsFormula, HasMeaning, TellsHolds, TellsFails}
 use Rattle.sot_commands.specs.WatchTexts.{formula_text}
 use Rattle.sot_commands.specs.Texts.{usage_text}
@@ -48,7 +48,7 @@ use Rattle.sot_commands.specs.Ends.{Takes}
 use Rattle.sot_commands.specs.Orders.{Orders, CommandOrder, IsOrdered, IsToldOf, IsFailedOf}
 use Rattle.sot_commands.specs.Orders.{IsVerdict}
 use Rattle.sot_commands.specs.Guests.{GuestsGoOn, IsNothing, SaysHolds, SaysFails, IsNoTrace}
-use Rattle.sot_program_answers.specs.declared.answer.Answer.{Answer}
+use Rattle.sot_cli.specs.declared.answer.Answer.{Answer}
 use Rattle.sot_commands.specs.declared.reply.Reply.{Reply}
 use Rattle.sot_commands.specs.declared.reply.Reply.TheVariants.{Said, Flight}
 

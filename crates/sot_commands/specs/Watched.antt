@@ -10,7 +10,7 @@ use Rattle.sot_formula.specs.Formulas.{Formula}
 use Rattle.sot_formula.specs.Phrases.{Phrase, IsFormulaText}
 use Rattle.sot_formula.specs.Meanings.{Means}
 use Rattle.sot_monitor.specs.Holding.{AlwaysHolds, FirstFails}
-use Rattle.sot_watch.specs.Moments.{moments_told}
+use Rattle.sot_monitor.specs.Moments.{moments_told}
 use Rattle.sot_commands.specs.WatchTexts.{holds_text, fails_text}
 
 -- the bytes are the text of a formula, and this is its meaning for a program

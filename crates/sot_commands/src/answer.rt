@@ -1,7 +1,7 @@
 //! Answers: a status with the text that is written with it.
 
 ghost use Rattle.std.specs.Prelude.{◌≡◌, ◌≢◌, ℕ, codes, IfOk};
-ghost use Rattle.sot_tree.specs.TreeViews.{program_view};
+ghost use Rattle.sot_syntax_tree.specs.TreeViews.{program_view};
 ghost use Rattle.sot_lang.specs.CertRules.{FitsTables};
 ghost use Rattle.sot_print.specs.Canonical.{canonical};
 ghost use Rattle.sot_world.specs.Opens.{IsFirstOutside};
@@ -17,15 +17,15 @@ ghost use Rattle.sot_certified_text.specs.FailTexts.{fail_text};
 ghost use Rattle.sot_recovery_text.specs.Recovery.{IsNeverAt};
 
 use sot_certify::CertifyFail;
+use sot_cli::{Answer, fixed};
 use sot_flight::Flight;
 use sot_formula::MonitorFail;
 use sot_lang::{Cert, Typed};
 use sot_maker::make;
 use sot_print::print;
-use sot_program_answers::{Answer, fixed};
 use sot_recovery_text::{RecoveryFail, never_text};
 use sot_replay::LineKind;
-use sot_tree::Program;
+use sot_syntax_tree::Program;
 use std::alloc::{AllocError, Global};
 
 /// Status 0: the canonical text of a program.
@@ -105,7 +105,7 @@ pub fn outside(
     ensures status { IfOk result (λ answer. answer.status ≡ 1) }
     ensures text { IfOk result (λ answer. IsOutsideOf program.now flight.now answer.text.items) }
 {
-    sot_program_answers::outside(alloc, program, flight.start(), module)
+    sot_cli::outside(alloc, program, flight.start(), module)
 }
 
 /// Status 0: `legal events E`.

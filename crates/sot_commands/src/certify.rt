@@ -1,11 +1,11 @@
 //! `certify`: a certificate for a program whose regions are given.
 
 ghost use Rattle.std.specs.Prelude.{ℕ, ◌<◌, ◌≤◌, ◌+◌, ◌^◌, length, Ok, IfOk, OnOk};
-ghost use Rattle.sot_tree.specs.TreeViews.{program_view};
+ghost use Rattle.sot_syntax_tree.specs.TreeViews.{program_view};
 ghost use Rattle.sot_lang.specs.CertRules.{FitsTables};
 ghost use Rattle.sot_certify.specs.Certifying.{Certifies};
 ghost use Rattle.sot_report.specs.Missions.{Resolves};
-ghost use Rattle.sot_program_answers.specs.Texts.{input_limit};
+ghost use Rattle.sot_cli.specs.Texts.{input_limit};
 ghost use Rattle.sot_commands.specs.Answers.{SpellsAccepted, Replies};
 ghost use Rattle.sot_commands.specs.Steps.{IsSpelled, IsWritten, CertifiesTables, CertifiesTree};
 ghost use Rattle.sot_commands.specs.declared.words.Command.TheVariants.{Certify as CertifyCommand};
@@ -13,16 +13,16 @@ ghost use Rattle.sot_commands.specs.declared.words.Command.TheVariants.{Certify 
 use crate::answer::uncertified;
 use sot_certified_text::mission_text;
 use sot_certify::{CertifyFail, certify as certificate};
+use sot_cli::{Answer, faulty};
 use sot_compose::check_all;
 use sot_lang::{Cert, Typed};
 use sot_parser::{ParseFail, parse};
 use sot_ports::{Process, let_go};
-use sot_program_answers::{Answer, faulty};
 use sot_report::{Fault, LoadFail, load};
 use sot_rules::TypeFail;
 use sot_sections::Need;
+use sot_syntax_tree::Program;
 use sot_text::Lexer;
-use sot_tree::Program;
 use sot_typing::resolve;
 use std::alloc::{AllocError, Global};
 use std::thread::Threads;

@@ -2,16 +2,16 @@
 
 ghost use Rattle.std.specs.Prelude.{◌≤◌, ℕ, length, IfOk};
 ghost use Rattle.sot_lang.specs.CertRules.{FitsTables};
-ghost use Rattle.sot_program_answers.specs.Texts.{input_limit};
+ghost use Rattle.sot_cli.specs.Texts.{input_limit};
 ghost use Rattle.sot_commands.specs.Answers.{Replies};
 ghost use Rattle.sot_commands.specs.Steps.{Judges};
 ghost use Rattle.sot_commands.specs.declared.words.Command.TheVariants.{Check as CheckCommand};
 
 use crate::answer::accepted;
+use sot_cli::{Answer, faulty, refused};
 use sot_compose::check_all;
 use sot_lang::{Cert, Typed};
 use sot_ports::{Process, let_go};
-use sot_program_answers::{Answer, faulty, refused};
 use sot_report::{LoadFail, load};
 use sot_sections::Need;
 use std::alloc::{AllocError, Global};

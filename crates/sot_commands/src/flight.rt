@@ -9,9 +9,9 @@ ghost use Rattle.sot_commands.specs.declared.telling.Telling.TheVariants.{Summar
 use crate::fly::fly;
 use crate::order::FlightOrder;
 use crate::telling::Telling;
-use sot_node_worker::Controller;
+use sot_cli::{Answer, INPUT_LIMIT};
+use sot_fly_worker::Controller;
 use sot_ports::Process;
-use sot_program_answers::{Answer, INPUT_LIMIT};
 use sot_text_output::Out;
 use std::alloc::{AllocError, Global};
 use std::sync::Wait;

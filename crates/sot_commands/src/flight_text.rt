@@ -7,19 +7,18 @@ ghost use Rattle.sot_formula.specs.Formulas.{Formula};
 ghost use Rattle.sot_formula.specs.Parts.{AreThere};
 ghost use Rattle.sot_monitor.specs.Holding.{AlwaysHolds, FirstFails};
 ghost use Rattle.sot_monitor.specs.Tracking.{StandsFor};
-ghost use Rattle.sot_watch.specs.Moments.{moments_told};
+ghost use Rattle.sot_monitor.specs.Moments.{moments_told};
 ghost use Rattle.sot_commands.specs.WatchTexts.{holds_text, fails_text};
 ghost use Rattle.sot_commands.specs.Steps.{trace_or_summary, Watches, TellsVerdict, SaysInAll};
 
 use crate::telling::Telling;
 use sot_board::Board;
-use sot_monitor::Monitor;
-use sot_program_answers::Answer;
+use sot_cli::Answer;
+use sot_monitor::{Monitor, watch};
 use sot_summary::{board_summary, summary_text};
 use sot_text_output::Out;
 use sot_trace::put_board;
 use sot_tube::Accepted;
-use sot_watch::watch;
 use std::alloc::{AllocError, Global};
 
 // A line as an answer.

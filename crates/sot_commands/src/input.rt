@@ -7,8 +7,8 @@ ghost use Rattle.sot_commands.specs.Words.{Reads};
 ghost use Rattle.sot_commands.specs.Ends.{Takes};
 
 use crate::words::Command;
+use sot_cli::{INPUT_LIMIT, read_input};
 use sot_ports::{ReadFail, Source};
-use sot_program_answers::{INPUT_LIMIT, read_input};
 use std::alloc::Global;
 
 fn reads(command: Command<'_>) -> bool
@@ -18,7 +18,7 @@ fn reads(command: Command<'_>) -> bool
 }
 
 /// All that the source has left, for a command that reads; and nothing for one that does not.
-#[tactic(auto, using(sot_program_answers::proofs::Endings::reads_nothing, crate::proofs::Nothing::takes_all, crate::proofs::Nothing::takes_none))]
+#[tactic(auto, using(sot_cli::proofs::Endings::reads_nothing, crate::proofs::Nothing::takes_all, crate::proofs::Nothing::takes_none))]
 pub fn take<S: Source>(
     alloc: Global,
     command: Command<'_>,

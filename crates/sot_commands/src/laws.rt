@@ -4,7 +4,7 @@ ghost use Rattle.sot_commands.specs.Laws.{AcceptedOnce, RefusedOnce, LinesRefuse
 ghost use Rattle.sot_commands.specs.Laws.{RejectedOnce};
 ghost use Rattle.sot_commands.specs.GuestLaws.{TracesEndOnce, FlewOnce, NamedAreAsked, OthersStay};
 
-use sot_node_worker::Controller;
+use sot_fly_worker::Controller;
 
 /// What is accepted is told with one text, but for the commands that fly.
 pub fn accepted_once()

@@ -37,10 +37,10 @@ pub use laws::{
 pub use order::{Begun, FlightOrder};
 pub use program::run;
 pub use sot_board::View;
+pub use sot_cli::Status;
+pub use sot_fly_worker::Controller;
 pub use sot_lang::Draft;
-pub use sot_node_worker::Controller;
 pub use sot_ports::{Process, Sink, Source, StdSink, StdSource};
-pub use sot_program_answers::Status;
 pub use telling::Telling;
 pub use top::{begin, fly_to_the_end, soter};
 pub use words::{Command, WordFail, command_of};

@@ -1,7 +1,7 @@
 //! Flights that words order, and what a call that does not fly them has come to.
 
 use crate::telling::Telling;
-use sot_program_answers::Status;
+use sot_cli::Status;
 
 /// A flight that is to be flown: the text of its mission, and what is told of it.
 #[derive(Drop)]

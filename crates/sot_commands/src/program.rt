@@ -4,10 +4,10 @@ ghost use Rattle.std.specs.Prelude.{None};
 
 use crate::top::soter;
 use sot_board::View;
+use sot_cli::run_program;
+use sot_fly_worker::Controller;
 use sot_lang::Draft;
-use sot_node_worker::Controller;
 use sot_ports::Process;
-use sot_program_answers::run_program;
 use std::alloc::Global;
 use std::env::Args;
 use std::io;

@@ -2,16 +2,16 @@
 
 ghost use Rattle.std.specs.Prelude.{◌≤◌, ℕ, length, IfOk};
 ghost use Rattle.sot_lang.specs.CertRules.{FitsTables};
-ghost use Rattle.sot_program_answers.specs.Texts.{input_limit};
+ghost use Rattle.sot_cli.specs.Texts.{input_limit};
 ghost use Rattle.sot_commands.specs.Answers.{Replies};
 ghost use Rattle.sot_commands.specs.Steps.{SaysRecovery, JudgesRecovery};
 ghost use Rattle.sot_commands.specs.declared.words.Command.TheVariants.{Recover as RecoverCommand};
 
 use crate::answer::unrecovered;
+use sot_cli::{Answer, faulty, refused};
 use sot_compose::check_all;
 use sot_lang::{Cert, Typed};
 use sot_ports::{Process, let_go};
-use sot_program_answers::{Answer, faulty, refused};
 use sot_recovery_text::recovery_text;
 use sot_report::{LoadFail, load};
 use sot_sections::Need;

@@ -1,7 +1,7 @@
 //! `soak`: the summary of a mission that is made, checked and flown.
 
 ghost use Rattle.std.specs.Prelude.{◌≤◌, [], length, IfOk};
-ghost use Rattle.sot_program_answers.specs.Texts.{input_limit};
+ghost use Rattle.sot_cli.specs.Texts.{input_limit};
 ghost use Rattle.sot_commands.specs.Orders.{Orders};
 ghost use Rattle.sot_commands.specs.Words.{AreAsked};
 ghost use Rattle.sot_commands.specs.declared.words.Command.TheVariants.{Soak as SoakCommand};

@@ -19,9 +19,9 @@ use crate::input::take;
 use crate::order::{Begun, FlightOrder};
 use crate::reply::{Reply, reply_of, said};
 use crate::words::{Command, WordFail, command_of};
-use sot_node_worker::Controller;
+use sot_cli::{Answer, INPUT_LIMIT, Status, fixed, say, too_long};
+use sot_fly_worker::Controller;
 use sot_ports::{Process, ReadFail, Sink, Source};
-use sot_program_answers::{Answer, INPUT_LIMIT, Status, fixed, say, too_long};
 use sot_text_output::{Spool, room};
 use std::alloc::{AllocError, Global};
 use std::sync::Wait;
@@ -69,7 +69,7 @@ fn perform<'w, R: Threads + Sync, S: Source>(
 }
 
 // The reply to the words, before anything is written.
-#[tactic(auto, using(sot_program_answers::proofs::Endings::reads_nothing))]
+#[tactic(auto, using(sot_cli::proofs::Endings::reads_nothing))]
 fn reply_to<'w, R: Threads + Sync, S: Source>(
     rt: &R,
     alloc: Global,

@@ -3,9 +3,9 @@ use Rattle.std.proofs.Common.{◌≡◌, ℕ, cond, suc, ◌+◌, ◌≤◌, nat
 use Rattle.std.proofs.lemmas.Bool.{cases_Bool}
 use Rattle.std.proofs.lemmas.Bool.Decides.{nat_tests}
 use Rattle.sot_text.specs.Reading.{Lexeme}
-use Rattle.sot_tree.specs.declared.operator.Func.{Func}
-use Rattle.sot_tree.specs.declared.tree.Lit.{Lit}
-use Rattle.sot_tree.specs.Trees.{number, named, negated}
+use Rattle.sot_syntax_tree.specs.declared.operator.Func.{Func}
+use Rattle.sot_syntax_tree.specs.declared.tree.Lit.{Lit}
+use Rattle.sot_syntax_tree.specs.Trees.{number, named, negated}
 use Rattle.sot_expression.specs.Lexemes.{IsSign, IsName, IsNumber, begins, is_sign, is_keyword, is_name, is_number, ident, literal, negative_literal}
 use Rattle.sot_expression.specs.Readers.{Read, ◌>>=◌, stuck, deep, expect, name_at, number_at, negative_at}
 use Rattle.sot_expression.specs.ExpressionReaders.{Part, Reader, leaf, over, within, number_part, truth_part, field_at, named_at, group_at, opened_at}

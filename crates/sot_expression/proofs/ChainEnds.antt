@@ -2,8 +2,8 @@
 use Rattle.std.proofs.Common.{◌≡◌, ◌≢◌, ℕ, zero, suc, ◌≤◌, max, nat_lt, cond, List, Bool, Some, Ok, Err, false, refl, ap, ◌∙◌, arith}
 use Rattle.std.proofs.lemmas.Bool.Decides.{nat_tests}
 use Rattle.sot_text.specs.Reading.{Lexeme}
-use Rattle.sot_tree.specs.declared.operator.Func.TheVariants.{Clamp}
-use Rattle.sot_tree.specs.Trees.{Tree, called, no_tree, one_more}
+use Rattle.sot_syntax_tree.specs.declared.operator.Func.TheVariants.{Clamp}
+use Rattle.sot_syntax_tree.specs.Trees.{Tree, called, no_tree, one_more}
 use Rattle.sot_expression.specs.declared.fail.Fail.{Fail}
 use Rattle.sot_expression.specs.declared.fail.Fail.TheVariants.{Token, Deep, Memory}
 use Rattle.sot_expression.specs.declared.operators.Infix.{Infix}

@@ -3,7 +3,7 @@ use Rattle.std.proofs.Common.{◌≡◌, ℕ, ◌==◌, cond, zero, suc, ◌≤�
 use Rattle.std.proofs.lemmas.Bool.{cases_Bool}
 use Rattle.std.proofs.lemmas.Bool.Decides.{nat_tests}
 use Rattle.sot_text.specs.Reading.{Lexeme}
-use Rattle.sot_tree.specs.Trees.{denied}
+use Rattle.sot_syntax_tree.specs.Trees.{denied}
 use Rattle.sot_expression.specs.declared.operators.Opening.{Opening}
 use Rattle.sot_expression.specs.declared.operators.Opening.TheVariants as openings
 use Rattle.sot_expression.specs.Lexemes.{IsSign, is_sign, is_keyword}

@@ -2,8 +2,8 @@
 use Rattle.std.proofs.Common.{◌≡◌, ℕ, cond, List, [], ◌∷◌, Bool, true, false, Ok, Err, refl, sym, ap, ◌∙◌}
 use Rattle.sot_text.specs.declared.token.Span.{Span}
 use Rattle.sot_text.specs.Reading.{Lexeme}
-use Rattle.sot_tree.specs.declared.tree.Ident.{Ident}
-use Rattle.sot_tree.specs.declared.tree.Lit.{Lit}
+use Rattle.sot_syntax_tree.specs.declared.tree.Ident.{Ident}
+use Rattle.sot_syntax_tree.specs.declared.tree.Lit.{Lit}
 use Rattle.sot_expression.specs.Lexemes.{IsKeyword, IsSign, IsName, IsNumber, is_keyword, is_sign, is_name, is_number, ident, literal, negative_literal}
 use Rattle.sot_expression.specs.Readers.{Read, Fault, ◌>>=◌, one_token, expect, name_at, number_at, negative_at}
 use Rattle.sot_expression.specs.ExpressionReaders.{any_token}

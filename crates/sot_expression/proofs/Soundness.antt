@@ -3,8 +3,8 @@ use Rattle.std.proofs.Common.{◌≡◌, ℕ, ◌==◌, zero, suc, ◌≤◌, na
 use Rattle.std.proofs.lemmas.Bool.{cases_Bool}
 use Rattle.std.proofs.lemmas.Bool.Decides.{nat_tests}
 use Rattle.sot_text.specs.Reading.{Lexeme}
-use Rattle.sot_tree.specs.declared.tree.Lit.{Lit}
-use Rattle.sot_tree.specs.Trees.{number, negated, denied}
+use Rattle.sot_syntax_tree.specs.declared.tree.Lit.{Lit}
+use Rattle.sot_syntax_tree.specs.Trees.{number, negated, denied}
 use Rattle.sot_expression.specs.declared.operators.Opening.{Opening}
 use Rattle.sot_expression.specs.declared.operators.Opening.TheVariants as openings
 use Rattle.sot_expression.specs.Lexemes.{IsKeyword, IsSign, begins, is_sign, is_keyword, is_number}

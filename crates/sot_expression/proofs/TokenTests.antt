@@ -6,10 +6,10 @@ use Rattle.std.specs.Str.{bytes_eq}
 use Rattle.sot_text.specs.declared.token.Kind.{Kind}
 use Rattle.sot_text.specs.declared.token.Kind.TheVariants.{Name, Keyword, Number, Sign}
 use Rattle.sot_text.specs.Reading.{Lexeme}
-use Rattle.sot_tree.specs.declared.operator.Op.{Op}
-use Rattle.sot_tree.specs.declared.operator.Op.TheVariants.{Add, Sub, Mul, Div, Less, LessEqual, Greater, GreaterEqual, Equal, NotEqual, And, Or}
-use Rattle.sot_tree.specs.declared.operator.Func.{Func}
-use Rattle.sot_tree.specs.declared.operator.Func.TheVariants.{Min, Max, Abs, Clamp}
+use Rattle.sot_syntax_tree.specs.declared.operator.Op.{Op}
+use Rattle.sot_syntax_tree.specs.declared.operator.Op.TheVariants.{Add, Sub, Mul, Div, Less, LessEqual, Greater, GreaterEqual, Equal, NotEqual, And, Or}
+use Rattle.sot_syntax_tree.specs.declared.operator.Func.{Func}
+use Rattle.sot_syntax_tree.specs.declared.operator.Func.TheVariants.{Min, Max, Abs, Clamp}
 use Rattle.sot_expression.specs.declared.operators.Infix.{Infix}
 use Rattle.sot_expression.specs.declared.operators.Infix.TheVariants.{Joins, Rests}
 use Rattle.sot_expression.specs.declared.operators.Opening.{Opening}

@@ -5,8 +5,8 @@ use Rattle.sot_text.specs.declared.token.Kind.{Kind}
 use Rattle.sot_text.specs.declared.token.Kind.TheVariants.{Name, Keyword, Number, Sign}
 use Rattle.sot_text.specs.Lexeme.{mantissa_of, decimals_of}
 use Rattle.sot_text.specs.Reading.{Lexeme}
-use Rattle.sot_tree.specs.declared.tree.Ident.{Ident}
-use Rattle.sot_tree.specs.declared.tree.Lit.{Lit}
+use Rattle.sot_syntax_tree.specs.declared.tree.Ident.{Ident}
+use Rattle.sot_syntax_tree.specs.declared.tree.Lit.{Lit}
 
 -- a token of the grammar: this keyword, this sign, some name, some number
 pub record IsKeyword (text : List ℕ) (t : Lexeme) : Type 0 where

@@ -3,7 +3,7 @@
 use Rattle.std.specs.Prelude.{ℕ, zero, suc, ◌+◌, ◌-◌, ◌≤◌, ◌==◌, Bool, true, false, ◌&&◌}
 use Rattle.std.specs.Prelude.{if◌then◌else◌, List, Ok}
 use Rattle.sot_text.specs.Reading.{Lexeme}
-use Rattle.sot_tree.specs.TreeViews.{tree_view}
+use Rattle.sot_syntax_tree.specs.TreeViews.{tree_view}
 use Rattle.sot_expression.specs.declared.part.Part.{Part as CodePart}
 use Rattle.sot_expression.specs.declared.operators.Infix.{Infix}
 use Rattle.sot_expression.specs.Readers.{Read, ◌>>=◌}

@@ -10,7 +10,7 @@ ghost use Rattle.sot_expression.specs.ExpressionReaders.{clamp_at, target_at, re
 ghost use Rattle.sot_expression.specs.ExpressionReaders.{begins_unary, minus_at, unary_at};
 ghost use Rattle.sot_expression.specs.ExpressionReaders.{denied_at, chosen_at, within, part_at};
 ghost use Rattle.sot_expression.specs.ExpressionReaders.{expression_at, tree_at};
-ghost use Rattle.sot_tree.specs.TreeViews.{tree_view};
+ghost use Rattle.sot_syntax_tree.specs.TreeViews.{tree_view};
 ghost use Rattle.sot_expression.specs.Parts.{part_view, Fits, below, inner, around, climbed};
 ghost use Rattle.sot_expression.specs.Parts.{onward, turned, plain_at, not_at};
 ghost use Rattle.sot_expression.specs.Returned.{Gives};
@@ -23,8 +23,8 @@ use crate::nodes;
 use crate::operators::{Infix, Opening, opening_at, operator_at, tier_of};
 use crate::part::Part;
 use crate::tokens::Tokens;
+use sot_syntax_tree::{Apart, Expr, Func, Ident, Lit, Member, Op};
 use sot_text::Token;
-use sot_tree::{Apart, Expr, Func, Ident, Lit, Member, Op};
 use std::alloc::Global;
 
 // The next token, whatever it is.

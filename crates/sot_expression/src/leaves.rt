@@ -11,8 +11,8 @@ ghost use Rattle.sot_expression.specs.Returned.{Gives};
 use crate::fail::Fail;
 use crate::tokens::Tokens;
 use crate::word::{token_is_keyword, token_is_sign};
+use sot_syntax_tree::{Ident, Lit, Name};
 use sot_text::{Kind, Span, Token, numeral_of};
-use sot_tree::{Ident, Lit, Name};
 use std::alloc::Global;
 
 /// Whether this keyword comes next.

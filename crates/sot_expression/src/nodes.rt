@@ -1,14 +1,14 @@
 //! The nodes of a tree, above parts that were read.
 ghost use Rattle.std.specs.Prelude.{◌≡◌};
-ghost use Rattle.sot_tree.specs.Trees.{binary, rest, negated, denied, called, one_more, no_tree};
-ghost use Rattle.sot_tree.specs.Trees.{rescaled, chosen};
-ghost use Rattle.sot_tree.specs.TreeViews.{tree_view, parts_view};
+ghost use Rattle.sot_syntax_tree.specs.Trees.{binary, rest, negated, denied, called, one_more, no_tree};
+ghost use Rattle.sot_syntax_tree.specs.Trees.{rescaled, chosen};
+ghost use Rattle.sot_syntax_tree.specs.TreeViews.{tree_view, parts_view};
 ghost use Rattle.sot_expression.specs.Returned.{Makes};
 
 use crate::fail::Fail;
 use crate::part::Part;
+use sot_syntax_tree::{Apart, Choice, Expr, Func, Lit, Op, Operands};
 use sot_text::Span;
-use sot_tree::{Apart, Choice, Expr, Func, Lit, Op, Operands};
 use std::alloc::Global;
 
 // A function with its parts.

@@ -8,8 +8,8 @@ ghost use Rattle.sot_expression.specs.Operators.{operator_from, opening_of, open
 
 use crate::tokens::Tokens;
 use crate::word::{token_is_keyword, token_is_sign};
+use sot_syntax_tree::{Func, Op};
 use sot_text::{Kind, Token};
-use sot_tree::{Func, Op};
 
 /// What joins a left part to what stands behind it: an operator with an operand, or `%` with a
 /// number.

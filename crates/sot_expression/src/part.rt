@@ -1,7 +1,7 @@
 //! What the functions of one expression hand each other.
 ghost use Rattle.std.specs.Prelude.{◌≡◌};
 
-use sot_tree::Expr;
+use sot_syntax_tree::Expr;
 
 /// An expression that was read, with how deep it nests. `bare` where it is a pair of parentheses.
 pub struct Part {

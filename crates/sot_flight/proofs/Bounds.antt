@@ -12,7 +12,7 @@ use Rattle.sot_lang.specs.declared.tables.NodeInfo.{NodeInfo}
 use Rattle.sot_lang.specs.Tables.{Tables}
 use Rattle.sot_lang.specs.Ranges.{bounds, range_of, write_ranges}
 use Rattle.sot_lang.proofs.Owners.{range_at}
-use Rattle.sot_generator_words.specs.Words.{word}
+use Rattle.sot_random_words.specs.Words.{word}
 use Rattle.sot_flight.specs.Draws.{drawn, drawn_from}
 use Rattle.sot_flight.proofs.Drawn.{drawn_at, length-drawn_from}
 

@@ -9,7 +9,7 @@ use Rattle.sot_lists.specs.Places.{At}
 use Rattle.sot_box.specs.Sides.{Side, IsIn}
 use Rattle.sot_box.specs.Boxes.{IsWithin}
 use Rattle.sot_lang.specs.TableRules.{IsNarrow}
-use Rattle.sot_generator_words.specs.Words.{word}
+use Rattle.sot_random_words.specs.Words.{word}
 use Rattle.sot_flight.specs.Draws.{drawn, drawn_from}
 
 -- the number at a place is drawn from the word of that place

@@ -8,7 +8,7 @@ use Rattle.std.proofs.lemmas.Nat.{mul-mod_first, mul-mod_second}
 use native.Mathlib.Nat.{mod-add-mod, add-mod, mod-eq_of_lt}
 use Rattle.rand_pcg.specs.Lcg.{next_state, state_after}
 use Rattle.rand_pcg.specs.Pcg.{multiplier_64}
-use Rattle.sot_generator_words.proofs.Words.{state_more}
+use Rattle.sot_random_words.proofs.Words.{state_more}
 use Rattle.sot_flight.specs.declared.few_words.TheConstants.{JUMPS}
 use Rattle.sot_flight.specs.Jumps.{power, sums, IsJump, IsListed}
 

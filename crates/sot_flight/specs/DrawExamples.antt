@@ -1,7 +1,7 @@
 -- Worked words, numbers and rows, as statements that the functions of `facts` prove.
 use Rattle.std.specs.Prelude.{◌≡◌, ℕ, ℤ, pos, negsuc, List, [], ◌∷◌, Option, Some, None}
 use Rattle.sot_box.specs.Sides.{Side}
-use Rattle.sot_generator_words.specs.Words.{word}
+use Rattle.sot_random_words.specs.Words.{word}
 use Rattle.sot_flight.specs.Draws.{drawn_from}
 use Rattle.sot_flight.specs.Stated.{row_at}
 

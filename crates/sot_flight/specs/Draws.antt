@@ -1,7 +1,7 @@
 -- Numbers drawn from the words of a generator.
 use Rattle.std.specs.Prelude.{ℕ, suc, ℤ, pos, ◌%◌, ◌+ℤ◌, ◌-ℤ◌, unsigned_abs, List, [], ◌∷◌}
 use Rattle.sot_box.specs.Sides.{Side}
-use Rattle.sot_generator_words.specs.Words.{word}
+use Rattle.sot_random_words.specs.Words.{word}
 
 -- how many numbers a range has
 abbrev pub width : Side → ℕ

@@ -4,7 +4,7 @@ ghost use Rattle.std.specs.Prelude.{◌≡◌, ◌+◌, ◌<◌};
 ghost use Rattle.rand_pcg.specs.Lcg.{next, state_after};
 ghost use Rattle.rand_pcg.specs.Pcg.{multiplier_64, output_xsh_rr};
 ghost use Rattle.sot_lang.specs.TableRules.{IsNarrow};
-ghost use Rattle.sot_generator_words.specs.Words.{words_from as words_from_word};
+ghost use Rattle.sot_random_words.specs.Words.{words_from as words_from_word};
 ghost use Rattle.sot_flight.specs.Draws.{drawn};
 ghost use Rattle.sot_flight.specs.Jumps.{IsListed};
 

@@ -5,7 +5,7 @@ use Rattle.std.proofs.lemmas.Bool.{false≢true}
 use Rattle.std.proofs.lemmas.Option.{none-some, same_Some}
 use Rattle.sot_lang.specs.Tables.{Tables}
 use Rattle.sot_lang.specs.TableRules.{MeetsTableRules}
-use Rattle.sot_tree.specs.declared.tree.Lit.{Lit}
+use Rattle.sot_syntax_tree.specs.declared.tree.Lit.{Lit}
 use Rattle.sot_expression.specs.Lexemes.{literal}
 use Rattle.sot_formula.specs.declared.quantity.Quantity.{Quantity}
 use Rattle.sot_formula.specs.declared.quantity.Comparison.{Comparison}
@@ -15,7 +15,7 @@ use Rattle.sot_formula.specs.declared.words.Single.{Single}
 use Rattle.sot_formula.specs.declared.words.Single.TheVariants as singles
 use Rattle.sot_formula.specs.declared.words.Double.{Double}
 use Rattle.sot_formula.specs.declared.words.Double.TheVariants as doubles
-use Rattle.sot_formula.specs.declared.finding.Found.{Found}
+use Rattle.sot_formula.specs.declared.finding.FoundQuantity.{FoundQuantity}
 use Rattle.sot_formula.specs.Formulas.{Formula}
 use Rattle.sot_formula.specs.Phrases.{Reference, Literal, Phrase, a_truth, a_single, a_double, a_within, a_comparison, IsPhrase}
 use Rattle.sot_formula.specs.Meanings.{Names, NamesNothing, decimals, Means, HasUnknown, HasOtherScale}
@@ -35,7 +35,7 @@ or_right false b e = e
 
 module _ (p : Tables) (rules : MeetsTableRules p) where
   -- a reference names nothing
-  compared_unknown : (r : Reference) (c : Comparison) (z : Lit) (s : Laid) (o : Option Found) → found_of p r ≡ o → (compared o c z s).unknown ≡ true
+  compared_unknown : (r : Reference) (c : Comparison) (z : Lit) (s : Laid) (o : Option FoundQuantity) → found_of p r ≡ o → (compared o c z s).unknown ≡ true
       → (s.unknown ≡ true) ⊎ NamesNothing p r
   compared_unknown r c z s None is e = inr (λ q scale h. none-some _ (sym is ∙ names_found p rules r q scale h))
   compared_unknown r c z s (Some x) is e = inl e
@@ -48,7 +48,7 @@ module _ (p : Tables) (rules : MeetsTableRules p) where
   unknown_set (a_within w begin n comma f end) s e = unknown_set f s e
   unknown_set (a_comparison r by z) s e = compared_unknown r (by_of by) (lit_of z) s (found_of p r) refl e
 
-  compared_stays : (c : Comparison) (z : Lit) (s : Laid) (o : Option Found) → s.unknown ≡ true → (compared o c z s).unknown ≡ true
+  compared_stays : (c : Comparison) (z : Lit) (s : Laid) (o : Option FoundQuantity) → s.unknown ≡ true → (compared o c z s).unknown ≡ true
   compared_stays c z s None e = refl
   compared_stays c z s (Some x) e = e
 
@@ -59,7 +59,7 @@ module _ (p : Tables) (rules : MeetsTableRules p) where
   unknown_stays (a_within w begin n comma f end) s e = unknown_stays f s e
   unknown_stays (a_comparison r by z) s e = compared_stays (by_of by) (lit_of z) s (found_of p r) e
 
-  compared_nothing : (r : Reference) (c : Comparison) (z : Lit) (s : Laid) (o : Option Found) → found_of p r ≡ o → NamesNothing p r
+  compared_nothing : (r : Reference) (c : Comparison) (z : Lit) (s : Laid) (o : Option FoundQuantity) → found_of p r ≡ o → NamesNothing p r
       → (compared o c z s).unknown ≡ true
   compared_nothing r c z s None is h = refl
   compared_nothing r c z s (Some x) is h = absurd (h x.of x.scale (found_names p rules r x is))
@@ -76,7 +76,7 @@ module _ (p : Tables) (rules : MeetsTableRules p) where
   abbrev IsOther : Reference → Literal → Type 0
   IsOther r z = (q : Quantity) × (scale : ℕ) × Names p r q scale × (scale ≢ decimals z)
 
-  compared_other : (r : Reference) (c : Comparison) (z : Literal) (s : Laid) (o : Option Found) → found_of p r ≡ o → (compared o c (lit_of z) s).differs ≡ true
+  compared_other : (r : Reference) (c : Comparison) (z : Literal) (s : Laid) (o : Option FoundQuantity) → found_of p r ≡ o → (compared o c (lit_of z) s).differs ≡ true
       → (s.differs ≡ true) ⊎ IsOther r z
   compared_other r c z s None is e = inl e
   compared_other r c z s (Some x) is e =
@@ -92,7 +92,7 @@ module _ (p : Tables) (rules : MeetsTableRules p) where
   differs_set (a_within w begin n comma f end) s e = differs_set f s e
   differs_set (a_comparison r by z) s e = compared_other r (by_of by) z s (found_of p r) refl e
 
-  compared_differs : (c : Comparison) (z : Lit) (s : Laid) (o : Option Found) → s.differs ≡ true → (compared o c z s).differs ≡ true
+  compared_differs : (c : Comparison) (z : Lit) (s : Laid) (o : Option FoundQuantity) → s.differs ≡ true → (compared o c z s).differs ≡ true
   compared_differs c z s None e = e
   compared_differs c z s (Some x) e = or_left s.differs _ e
 
@@ -127,9 +127,9 @@ module _ (p : Tables) (rules : MeetsTableRules p) where
   one_scale : (r : Reference) (q k : Quantity) (a b : ℕ) → Names p r q a → Names p r k b → a ≡ b
   one_scale r q k a b m n =
       let e : Some (found_as q a) ≡ Some (found_as k b) = sym (names_found p rules r q a m) ∙ names_found p rules r k b n in
-      ap (λ (x : Found). x.scale) (same_Some (found_as q a) (found_as k b) e)
+      ap (λ (x : FoundQuantity). x.scale) (same_Some (found_as q a) (found_as k b) e)
     where
-      found_as : Quantity → ℕ → Found
+      found_as : Quantity → ℕ → FoundQuantity
       found_as o s = record { of = o; scale = s }
 
   pub means_same : (f : Phrase) (x : Formula) → Means p f x → HasOtherScale p f → ⊥
@@ -156,7 +156,7 @@ module _ (p : Tables) (rules : MeetsTableRules p) where
   double_placed doubles.Or j k n a b = (a, b)
   double_placed doubles.Since j k n a b = (a, b)
 
-  compared_placed : (c : Comparison) (z : Lit) (s : Laid) (o : Option Found) → ArePlaced s.whats → ArePlaced (compared o c z s).whats
+  compared_placed : (c : Comparison) (z : Lit) (s : Laid) (o : Option FoundQuantity) → ArePlaced s.whats → ArePlaced (compared o c z s).whats
   compared_placed c z s None all = put_placed s (whats.Truth false) all tt
   compared_placed c z s (Some x) all = put_placed s (whats.Compared x.of c z.mantissa) all tt
 
@@ -202,7 +202,7 @@ module _ (p : Tables) (rules : MeetsTableRules p) where
   within_there : (n k : ℕ) → IsThereIn (whats.Within n k)
   within_there n k q by number e = absurd cc
 
-  compared_there : (r : Reference) (c : Comparison) (z : Lit) (s : Laid) (o : Option Found) → found_of p r ≡ o → AreThere p s.whats
+  compared_there : (r : Reference) (c : Comparison) (z : Lit) (s : Laid) (o : Option FoundQuantity) → found_of p r ≡ o → AreThere p s.whats
       → AreThere p (compared o c z s).whats
   compared_there r c z s None is all = put_there s (whats.Truth false) all (truth_there false)
   compared_there r c z s (Some x) is all =

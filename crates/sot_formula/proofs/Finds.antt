@@ -18,7 +18,7 @@ use Rattle.sot_lang.specs.Tables.{Tables}
 use Rattle.sot_lang.specs.TableRules.{MeetsTableRules}
 use Rattle.sot_formula.specs.declared.quantity.Quantity.{Quantity}
 use Rattle.sot_formula.specs.declared.quantity.Quantity.TheVariants as quantities
-use Rattle.sot_formula.specs.declared.finding.Found.{Found}
+use Rattle.sot_formula.specs.declared.finding.FoundQuantity.{FoundQuantity}
 use Rattle.sot_formula.specs.Meanings.{scale_of, IsPlain, IsField, IsVariable, IsModule}
 use Rattle.sot_formula.specs.Finding.{place_of, is_field, found_scalar, plain_of, plain_in}
 use Rattle.sot_formula.specs.Finding.{plain_named, scalars_of, field_in, field_named, found_state, variable_in}
@@ -36,7 +36,7 @@ map_some : {A B : Type 0} (f : A → B) (o : Option A) (y : B) → option_map f 
 map_some f None y e = absurd cc
 map_some f (Some x) y e = (x, refl, same_Some (f x) y e)
 
-plain_case : (o : Option (List ℕ)) (y x : Found) → option_map_or (λ n. None) o (Some y) ≡ Some x → (o ≡ None) × (y ≡ x)
+plain_case : (o : Option (List ℕ)) (y x : FoundQuantity) → option_map_or (λ n. None) o (Some y) ≡ Some x → (o ≡ None) × (y ≡ x)
 plain_case None y x e = (refl, same_Some y x e)
 plain_case (Some n) y x e = absurd (none-some x e)
 
@@ -80,15 +80,15 @@ slice_at xs from count i x at lt = taken (drop from xs) count i (dropped xs from
         let step : At (y ∷ ys) (suc (n + k)) x = subst (λ m. At (y ∷ ys) m x) same at in
         dropped ys n k step
 
-or_case : (a b : Option Found) (x : Found) → or_else a b ≡ Some x → (a ≡ Some x) ⊎ (b ≡ Some x)
+or_case : (a b : Option FoundQuantity) (x : FoundQuantity) → or_else a b ≡ Some x → (a ≡ Some x) ⊎ (b ≡ Some x)
 or_case None b x e = inr e
 or_case (Some y) b x e = inl e
 
-or_second : (a b : Option Found) (y : Found) → ((x : Found) → a ≡ Some x → ⊥) → b ≡ Some y → or_else a b ≡ Some y
+or_second : (a b : Option FoundQuantity) (y : FoundQuantity) → ((x : FoundQuantity) → a ≡ Some x → ⊥) → b ≡ Some y → or_else a b ≡ Some y
 or_second None b y none' e = e
 or_second (Some x) b y none' e = absurd (none' x refl)
 
-found_with : Quantity → ℕ → Found
+found_with : Quantity → ℕ → FoundQuantity
 found_with q s = record { of = q; scale = s }
 
 module _ (p : Tables) (rules : MeetsTableRules p) where
@@ -120,7 +120,7 @@ module _ (p : Tables) (rules : MeetsTableRules p) where
       let one : own.0 ≡ topic = at_same p.topics info.topic own.0 topic own.1 at in
       (subst (λ (x : TopicInfo). x.first ≤ k) one own.2, subst (λ (x : TopicInfo). k < x.first + x.count) one own.3)
 
-  pub plain_found : (word : List ℕ) (x : Found) → plain_named p word ≡ Some x → (k : ℕ) × IsPlain p word k x.scale × (x.of ≡ quantities.Scalar k)
+  pub plain_found : (word : List ℕ) (x : FoundQuantity) → plain_named p word ≡ Some x → (k : ℕ) × IsPlain p word k x.scale × (x.of ≡ quantities.Scalar k)
   unfolding plain_named
   plain_found word x e =
       option_and_then_some _ (place_of (λ (y : TopicInfo). y.name) p.topics word) x e (λ t is next.
@@ -139,9 +139,9 @@ module _ (p : Tables) (rules : MeetsTableRules p) where
           topic_is = subst (λ n. At p.topics n topic) (sym mine) at;
           name_is = ap (λ (y : TopicInfo). y.name) (sym one) ∙ named_is named.0.name word named.2;
           plain = c.0;
-          scale_is = ap (λ (y : Found). y.scale) (sym c.1);
+          scale_is = ap (λ (y : FoundQuantity). y.scale) (sym c.1);
         },
-        ap (λ (y : Found). y.of) (sym c.1),
+        ap (λ (y : FoundQuantity). y.of) (sym c.1),
       ))))
 
   pub plain_finds : (word : List ℕ) (k scale : ℕ) → IsPlain p word k scale → plain_named p word ≡ Some (record { of = quantities.Scalar k; scale = scale })
@@ -158,7 +158,7 @@ module _ (p : Tables) (rules : MeetsTableRules p) where
       ∙ ap (λ n. Some (found_with (quantities.Scalar n) (scale_of i.info))) first
       ∙ ap (λ s. Some (found_with (quantities.Scalar k) s)) (sym i.scale_is)
 
-  pub field_found : (word f : List ℕ) (x : Found) → field_named p word f ≡ Some x → (k : ℕ) × IsField p word f k x.scale × (x.of ≡ quantities.Scalar k)
+  pub field_found : (word f : List ℕ) (x : FoundQuantity) → field_named p word f ≡ Some x → (k : ℕ) × IsField p word f k x.scale × (x.of ≡ quantities.Scalar k)
   unfolding field_named field_in
   field_found word f x e =
       option_and_then_some _ (place_of (λ (y : TopicInfo). y.name) p.topics word) x e (λ t is next.
@@ -180,9 +180,9 @@ module _ (p : Tables) (rules : MeetsTableRules p) where
           topic_is = subst (λ n. At p.topics n topic) (sym mine) at;
           name_is = ap (λ (y : TopicInfo). y.name) (sym one) ∙ named_is named.0.name word named.2;
           field_is = field_case m.0.field f (subst (λ (y : ScalarInfo). is_field f y ≡ true) same ok.2);
-          scale_is = ap (λ (y : Found). y.scale) (sym m.2);
+          scale_is = ap (λ (y : FoundQuantity). y.scale) (sym m.2);
         },
-        ap (λ (y : Found). y.of) (sym m.2),
+        ap (λ (y : FoundQuantity). y.of) (sym m.2),
       ))))
 
   pub field_finds : (word f : List ℕ) (k scale : ℕ) → IsField p word f k scale
@@ -209,7 +209,7 @@ module _ (p : Tables) (rules : MeetsTableRules p) where
       ∙ ap (λ m. Some (found_with (quantities.Scalar m) (scale_of i.info))) place
       ∙ ap (λ s. Some (found_with (quantities.Scalar k) s)) (sym i.scale_is)
 
-  pub variable_found : (word f : List ℕ) (x : Found) → variable_named p word f ≡ Some x → (k v : ℕ) × IsVariable p word f k v x.scale
+  pub variable_found : (word f : List ℕ) (x : FoundQuantity) → variable_named p word f ≡ Some x → (k v : ℕ) × IsVariable p word f k v x.scale
       × (x.of ≡ quantities.State k v)
   unfolding variable_named variable_in
   variable_found word f x e =
@@ -231,9 +231,9 @@ module _ (p : Tables) (rules : MeetsTableRules p) where
           state_is = m.1;
           var_is = ap (λ (y : StateInfo). y.name) (sym same) ∙ named_is ok.0.name f ok.2;
           first = λ j y at_y is_y. found_first (λ (z : StateInfo). bytes_eq z.name f) plant.states.items v passes j y at_y (named_yes y.name f is_y);
-          scale_is = ap (λ (y : Found). y.scale) (sym m.2);
+          scale_is = ap (λ (y : FoundQuantity). y.scale) (sym m.2);
         },
-        ap (λ (y : Found). y.of) (sym m.2),
+        ap (λ (y : FoundQuantity). y.of) (sym m.2),
       ))))
 
   pub variable_finds : (word f : List ℕ) (k v scale : ℕ) → IsVariable p word f k v scale
@@ -249,7 +249,7 @@ module _ (p : Tables) (rules : MeetsTableRules p) where
       ∙ ap (option_map (found_state k v)) i.state_is
       ∙ ap (λ s. Some (found_with (quantities.State k v) s)) (sym i.scale_is)
 
-  pub part_found : (word f : List ℕ) (x : Found) → part_named p word f ≡ Some x
+  pub part_found : (word f : List ℕ) (x : FoundQuantity) → part_named p word f ≡ Some x
       → ((k : ℕ) × IsField p word f k x.scale × (x.of ≡ quantities.Scalar k)) ⊎ ((k v : ℕ) × IsVariable p word f k v x.scale × (x.of ≡ quantities.State k v))
   unfolding part_named
   part_found word f x e =
@@ -268,15 +268,15 @@ module _ (p : Tables) (rules : MeetsTableRules p) where
       (λ x e. (let a = (field_found word f x e).1 in topic_no_plant p rules a.info.topic k a.topic i.plant a.topic_is i.is (a.name_is ∙ sym i.name_is)))
       (variable_finds word f k v scale i)
 
-  pub module_found : (word : List ℕ) (x : Found) → module_named p word ≡ Some x → (m : ℕ) × IsModule p word m × (x.of ≡ quantities.Mode m) × (x.scale ≡ 0)
+  pub module_found : (word : List ℕ) (x : FoundQuantity) → module_named p word ≡ Some x → (m : ℕ) × IsModule p word m × (x.of ≡ quantities.Mode m) × (x.scale ≡ 0)
   unfolding module_named
   module_found word x e =
       let m = map_some (λ n. record { of = quantities.Mode n; scale = 0 }) (place_of (λ (y : ModuleInfo). y.name) p.modules word) x e in
       let ok = found_at (λ (y : ModuleInfo). bytes_eq y.name word) p.modules m.0 m.1 in (
         m.0,
         record { info = ok.0; is = ok.1; name_is = named_is ok.0.name word ok.2 },
-        ap (λ (y : Found). y.of) (sym m.2),
-        ap (λ (y : Found). y.scale)
+        ap (λ (y : FoundQuantity). y.of) (sym m.2),
+        ap (λ (y : FoundQuantity). y.scale)
             (sym m.2),
       )
 

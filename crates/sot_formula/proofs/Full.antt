@@ -20,7 +20,7 @@ use Rattle.sot_formula.specs.declared.words.Single.{Single}
 use Rattle.sot_formula.specs.declared.words.Single.TheVariants as singles
 use Rattle.sot_formula.specs.declared.words.Double.{Double}
 use Rattle.sot_formula.specs.declared.words.Double.TheVariants as doubles
-use Rattle.sot_formula.specs.declared.finding.Found.{Found}
+use Rattle.sot_formula.specs.declared.finding.FoundQuantity.{FoundQuantity}
 use Rattle.sot_formula.specs.Phrases.{Reference, a_mode, a_name, a_field, Literal, a_number}
 use Rattle.sot_formula.specs.Phrases.{a_negative, Phrase, a_truth, a_single, a_double, a_within, a_comparison}
 use Rattle.sot_formula.specs.Phrases.{literal_spelled, spelled, IsReference, IsLiteral, IsComparing, AreTicks, IsPhrase, levels_of}
@@ -64,7 +64,7 @@ literal_read (a_negative minus n) ts is =
     ap (λ b. cond b (negative_at minus (n ∷ ts)) (number_at (minus ∷ n ∷ ts))) (ap (is_sign (codes "-")) (sign_is (codes "-") minus is.0))
     ∙ one_read is_number (negative_literal minus) n ts (ap is_number (number_is n is.1))
 
-comparison_full : (found : Option Found) (s : Laid) (by : Lexeme) (z : Literal) (ts : List Lexeme) → IsComparing by → IsLiteral z
+comparison_full : (found : Option FoundQuantity) (s : Laid) (by : Lexeme) (z : Literal) (ts : List Lexeme) → IsComparing by → IsLiteral z
     → comparison_at found s (by ∷ literal_spelled z ts) ≡ Ok (compared found (by_of by) (lit_of z) s, ts)
 unfolding comparison_at comparing_at
 comparison_full found s by z ts is lit =
@@ -161,7 +161,7 @@ module _ (p : Tables) (r : ℕ) (inner : Reader) (each : EachPhrase p r inner) w
   mode_full w begin n end by z s us is c l =
       let y : Read Laid = Ok (compared (module_named p n.text) (by_of by) (lit_of z) s, us) in
       let ts : List Lexeme = by ∷ literal_spelled z us in
-      let m : Read (Option Found) = Ok (module_named p n.text, ts) in
+      let m : Read (Option FoundQuantity) = Ok (module_named p n.text, ts) in
       word_opens w begin s (n ∷ end ∷ ts) y is.0.name is.1
       (ap (λ v. called_at p inner (word_of v) s (begin ∷ n ∷ end ∷ ts)) is.0.text_is
       ∙ give
@@ -188,7 +188,7 @@ module _ (p : Tables) (r : ℕ) (inner : Reader) (each : EachPhrase p r inner) w
   field_full n dot f by z s us is c l =
       let y : Read Laid = Ok (compared (part_named p n.text f.text) (by_of by) (lit_of z) s, us) in
       let ts : List Lexeme = by ∷ literal_spelled z us in
-      let m : Read (Option Found) = Ok (part_named p n.text f.text, ts) in
+      let m : Read (Option FoundQuantity) = Ok (part_named p n.text f.text, ts) in
       ap (λ o. opened_at p inner o s (n ∷ dot ∷ f ∷ ts)) (name_opens n is.0)
       ∙ give (name_read n (dot ∷ f ∷ ts) is.0) _ y
       (ap (λ b. cond b (called_at p inner (word_of n.text) s (dot ∷ f ∷ ts)) (named_at p n s (dot ∷ f ∷ ts)))

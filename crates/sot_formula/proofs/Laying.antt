@@ -4,7 +4,7 @@ use Rattle.std.specs.Str.{bytes_eq}
 use Rattle.std.proofs.lemmas.Slice.Eq.{bytes_eq-Decides}
 use Rattle.sot_text.specs.Reading.{Lexeme}
 use Rattle.sot_lang.specs.Tables.{Tables}
-use Rattle.sot_tree.specs.declared.tree.Lit.{Lit}
+use Rattle.sot_syntax_tree.specs.declared.tree.Lit.{Lit}
 use Rattle.sot_expression.specs.Lexemes.{IsSign, IsName, is_sign, is_keyword, is_name, literal, negative_literal}
 use Rattle.sot_expression.proofs.TokenTests.{sign_ok, keyword_ok, name_ok, sign_is, keyword_is, name_is}
 use Rattle.sot_formula.specs.declared.quantity.Comparison.{Comparison}
@@ -12,11 +12,11 @@ use Rattle.sot_formula.specs.declared.quantity.Comparison.TheVariants as compari
 use Rattle.sot_formula.specs.declared.what.What.TheVariants as whats
 use Rattle.sot_formula.specs.declared.words.Single.TheVariants as singles
 use Rattle.sot_formula.specs.declared.words.Double.TheVariants as doubles
-use Rattle.sot_formula.specs.declared.words.Opening.{Opening}
-use Rattle.sot_formula.specs.declared.words.Opening.TheVariants as openings
+use Rattle.sot_formula.specs.declared.words.FormulaOpening.{FormulaOpening}
+use Rattle.sot_formula.specs.declared.words.FormulaOpening.TheVariants as openings
 use Rattle.sot_formula.specs.declared.words.Word.{Word}
 use Rattle.sot_formula.specs.declared.words.Word.TheVariants as words
-use Rattle.sot_formula.specs.declared.finding.Found.{Found}
+use Rattle.sot_formula.specs.declared.finding.FoundQuantity.{FoundQuantity}
 use Rattle.sot_formula.specs.Phrases.{Reference, a_mode, a_name, a_field, Literal, a_number}
 use Rattle.sot_formula.specs.Phrases.{a_negative, Phrase, a_truth, a_single, a_double, a_within, a_comparison}
 use Rattle.sot_formula.specs.Phrases.{IsSingle, IsDouble, IsTruth, IsComparing}
@@ -25,7 +25,7 @@ use Rattle.sot_formula.specs.Words.{comparing_of, opening_of, word_of, single_wh
 use Rattle.sot_formula.specs.Finding.{plain_named, part_named, module_named}
 use Rattle.sot_formula.specs.Reading.{Laid, place, put, compared, ticks_of}
 
-abbrev pub found_of : Tables → Reference → Option Found
+abbrev pub found_of : Tables → Reference → Option FoundQuantity
 found_of p (a_mode w begin n end) = module_named p n.text
 found_of p (a_name n) = plain_named p n.text
 found_of p (a_field n dot f) = part_named p n.text f.text
@@ -55,7 +55,7 @@ case_by P true x rest f g = f refl
 case_by P false x rest f g = g
 
 -- what a token is, as it opens a formula
-abbrev pub IsOpened : Lexeme → Opening → Type 0
+abbrev pub IsOpened : Lexeme → FormulaOpening → Type 0
 IsOpened t (openings.Truth value) = IsTruth value t
 IsOpened t (openings.Single o) = IsSingle o t
 IsOpened t (openings.Double o) = IsDouble o t

@@ -11,7 +11,7 @@ use Rattle.sot_text.specs.Lexeme.{mantissa_of}
 use Rattle.sot_text.specs.Reading.{Lexeme}
 use Rattle.sot_lang.specs.Tables.{Tables}
 use Rattle.sot_lang.specs.TableRules.{MeetsTableRules}
-use Rattle.sot_tree.specs.declared.tree.Lit.{Lit}
+use Rattle.sot_syntax_tree.specs.declared.tree.Lit.{Lit}
 use Rattle.sot_expression.specs.Lexemes.{literal}
 use Rattle.sot_formula.specs.declared.quantity.Quantity.{Quantity}
 use Rattle.sot_formula.specs.declared.quantity.Comparison.{Comparison}
@@ -19,7 +19,7 @@ use Rattle.sot_formula.specs.declared.what.What.{What}
 use Rattle.sot_formula.specs.declared.what.What.TheVariants as whats
 use Rattle.sot_formula.specs.declared.words.Single.TheVariants as singles
 use Rattle.sot_formula.specs.declared.words.Double.TheVariants as doubles
-use Rattle.sot_formula.specs.declared.finding.Found.{Found}
+use Rattle.sot_formula.specs.declared.finding.FoundQuantity.{FoundQuantity}
 use Rattle.sot_formula.specs.Formulas.{Formula, Truth, Compared, Not, And, Or, Once, Since, Within}
 use Rattle.sot_formula.specs.Phrases.{Reference, a_mode, a_name, a_field, Literal, a_number, a_negative}
 use Rattle.sot_formula.specs.Phrases.{Phrase, a_truth, a_single, a_double, a_within, a_comparison, IsPhrase}
@@ -69,7 +69,7 @@ then_extends : (s t u : Laid) → Extends s t → Extends t u → Extends s u
 then_extends s t u a b = (let m = a.some in let n = b.some in
     record { more = a.more ++ b.more; is = b.is ∙ ap (λ ws. ws ++ b.more) a.is ∙ append_assoc s.whats a.more b.more; some = omega (arith, m, n) })
 
-compared_extends : (o : Option Found) (by : Comparison) (z : Lit) (s : Laid) → Extends s (compared o by z s)
+compared_extends : (o : Option FoundQuantity) (by : Comparison) (z : Lit) (s : Laid) → Extends s (compared o by z s)
 compared_extends None by z s = put_extends s _ (whats.Truth false) refl
 compared_extends (Some x) by z s = put_extends s _ (whats.Compared x.of by z.mantissa) refl
 
@@ -84,7 +84,7 @@ extends p (a_comparison r by z) s = compared_extends (found_of p r) (by_of by) (
 
 module _ (p : Tables) (rules : MeetsTableRules p) where
   -- what is found is named, and what is named is found
-  pub found_names : (r : Reference) (x : Found) → found_of p r ≡ Some x → Names p r x.of x.scale
+  pub found_names : (r : Reference) (x : FoundQuantity) → found_of p r ≡ Some x → Names p r x.of x.scale
   found_names (a_mode w begin n end) x e = module_found p rules n.text x e
   found_names (a_name n) x e = plain_found p rules n.text x e
   found_names (a_field n dot f) x e = part_found p rules n.text f.text x e
@@ -92,19 +92,19 @@ module _ (p : Tables) (rules : MeetsTableRules p) where
   pub names_found : (r : Reference) (q : Quantity) (scale : ℕ) → Names p r q scale → found_of p r ≡ Some (record { of = q; scale = scale })
   names_found (a_mode w begin n end) q scale h = module_finds p rules n.text h.0 h.1 ∙ ap₂ (λ a b. Some (found_as a b)) (sym h.2) (sym h.3)
     where
-      found_as : Quantity → ℕ → Found
+      found_as : Quantity → ℕ → FoundQuantity
       found_as a b = record { of = a; scale = b }
   names_found (a_name n) q scale h = plain_finds p rules n.text h.0 scale h.1 ∙ ap (λ a. Some (found_as a)) (sym h.2)
     where
-      found_as : Quantity → Found
+      found_as : Quantity → FoundQuantity
       found_as a = record { of = a; scale = scale }
   names_found (a_field n dot f) q scale (inl h) = part_finds_field p rules n.text f.text h.0 scale h.1 ∙ ap (λ a. Some (found_as a)) (sym h.2)
     where
-      found_as : Quantity → Found
+      found_as : Quantity → FoundQuantity
       found_as a = record { of = a; scale = scale }
   names_found (a_field n dot f) q scale (inr h) = part_finds_variable p rules n.text f.text h.0 h.1 scale h.2 ∙ ap (λ a. Some (found_as a)) (sym h.3)
     where
-      found_as : Quantity → Found
+      found_as : Quantity → FoundQuantity
       found_as a = record { of = a; scale = scale }
 
   pub names_there : (r : Reference) (q : Quantity) (scale : ℕ) → Names p r q scale → IsThere p q
@@ -159,7 +159,7 @@ module _ (p : Tables) (rules : MeetsTableRules p) where
     pub known : s.unknown ≡ false
     pub same : s.differs ≡ false
 
-  compared_meant : (r : Reference) (by : Lexeme) (z : Literal) (s : Laid) (o : Option Found) → found_of p r ≡ o → IsPhrase (a_comparison r by z)
+  compared_meant : (r : Reference) (by : Lexeme) (z : Literal) (s : Laid) (o : Option FoundQuantity) → found_of p r ≡ o → IsPhrase (a_comparison r by z)
       → (compared o (by_of by) (lit_of z) s).unknown ≡ false → (compared o (by_of by) (lit_of z) s).differs ≡ false
       → (x : Formula) × IsCompared p r by z x × IsPart (compared o (by_of by) (lit_of z) s).whats (place (compared o (by_of by) (lit_of z) s)) x
       × (s.unknown ≡ false) × (s.differs ≡ false)

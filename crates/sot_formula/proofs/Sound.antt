@@ -7,7 +7,7 @@ use Rattle.std.proofs.lemmas.Bool.Decides.{nat_tests}
 use Rattle.sot_text.specs.Lexeme.{mantissa_of, decimals_of}
 use Rattle.sot_text.specs.Reading.{Lexeme}
 use Rattle.sot_lang.specs.Tables.{Tables}
-use Rattle.sot_tree.specs.declared.tree.Lit.{Lit}
+use Rattle.sot_syntax_tree.specs.declared.tree.Lit.{Lit}
 use Rattle.sot_expression.specs.Lexemes.{IsSign, IsName, begins, is_sign, is_name, literal}
 use Rattle.sot_expression.specs.Readers.{◌>>=◌, expect, number_at, negative_at, literal_at}
 use Rattle.sot_expression.specs.Stream.{first_of}
@@ -17,11 +17,11 @@ use Rattle.sot_formula.specs.declared.quantity.Comparison.{Comparison}
 use Rattle.sot_formula.specs.declared.what.What.TheVariants as whats
 use Rattle.sot_formula.specs.declared.words.Single.{Single}
 use Rattle.sot_formula.specs.declared.words.Double.{Double}
-use Rattle.sot_formula.specs.declared.words.Opening.{Opening}
-use Rattle.sot_formula.specs.declared.words.Opening.TheVariants as openings
+use Rattle.sot_formula.specs.declared.words.FormulaOpening.{FormulaOpening}
+use Rattle.sot_formula.specs.declared.words.FormulaOpening.TheVariants as openings
 use Rattle.sot_formula.specs.declared.words.Word.{Word}
 use Rattle.sot_formula.specs.declared.words.Word.TheVariants as words
-use Rattle.sot_formula.specs.declared.finding.Found.{Found}
+use Rattle.sot_formula.specs.declared.finding.FoundQuantity.{FoundQuantity}
 use Rattle.sot_formula.specs.Phrases.{a_mode, a_name, a_field, Literal, a_number, a_negative, Phrase, a_truth, a_single, a_double, a_within, a_comparison}
 use Rattle.sot_formula.specs.Phrases.{literal_spelled, spelled, IsWord, IsSingle, IsDouble, IsLiteral, IsComparing, AreTicks, IsPhrase, levels_of}
 use Rattle.sot_formula.specs.Words.{comparing_of, opening_of, opening_from, word_of, single_what, double_what}
@@ -68,11 +68,11 @@ literal_sound (t ∷ us) x e =
     (λ minus read. (let n = negative_taken t us x read in (a_negative t n.0, (sign_ok (codes "-") t minus, n.2), ap (λ vs. t ∷ vs) n.1, n.3)))
     (λ other read. (let n = number_taken (t ∷ us) x read in (a_number n.0, n.2, n.1, n.3)))
 
-abbrev IsComparedBy : Option Found → Laid → List Lexeme → Got → Type 0
+abbrev IsComparedBy : Option FoundQuantity → Laid → List Lexeme → Got → Type 0
 IsComparedBy found s ts x =
     (by : Lexeme) × (z : Literal) × IsComparing by × IsLiteral z × (ts ≡ by ∷ literal_spelled z x.1) × (x.0 ≡ compared found (by_of by) (lit_of z) s)
 
-comparison_sound : (found : Option Found) (s : Laid) (ts : List Lexeme) (x : Got) → comparison_at found s ts ≡ Ok x → IsComparedBy found s ts x
+comparison_sound : (found : Option FoundQuantity) (s : Laid) (ts : List Lexeme) (x : Got) → comparison_at found s ts ≡ Ok x → IsComparedBy found s ts x
 unfolding comparison_at
 comparison_sound found s ts x e =
     let b = bind_ok (comparing_at ts) _ x e in
@@ -222,15 +222,15 @@ module _ (p : Tables) (r : ℕ) (inner : Reader) (only : OnlyPhrases p r inner) 
       let n = name_taken b.0.1 k.0 k.1 in
       let c = bind_ok (expect (is_sign (codes ")")) k.0.1) _ a.0 k.2 in
       let end = sign_taken (codes ")") k.0.1 c.0 c.1 in
-      let is : ◌≡◌ {A = Option Found × List Lexeme} (module_named p k.0.0.text, c.0.1) a.0 = ok_is (module_named p k.0.0.text, c.0.1) a.0 c.2 in
+      let is : ◌≡◌ {A = Option FoundQuantity × List Lexeme} (module_named p k.0.0.text, c.0.1) a.0 = ok_is (module_named p k.0.0.text, c.0.1) a.0 c.2 in
       let h = comparison_sound a.0.0 s a.0.1 x a.2 in (
         a_comparison (a_mode w begin.0 k.0.0 end.0) h.0 h.1,
         ((word, begin.2, n.0, end.2), h.2, h.3),
         ap (λ vs. w ∷ vs)
             (begin.1 ∙ ap (λ vs. begin.0 ∷ vs)
-            (n.1 ∙ ap (λ vs. k.0.0 ∷ vs) (end.1 ∙ ap (λ (z : Option Found × List Lexeme). end.0 ∷ z.1) is ∙ ap (λ vs. end.0 ∷ vs) h.4))),
+            (n.1 ∙ ap (λ vs. k.0.0 ∷ vs) (end.1 ∙ ap (λ (z : Option FoundQuantity × List Lexeme). end.0 ∷ z.1) is ∙ ap (λ vs. end.0 ∷ vs) h.4))),
         omega arith,
-        h.5 ∙ ap (λ (o : Option Found). compared o (by_of h.0) (lit_of h.1) s) (sym (ap (λ (z : Option Found × List Lexeme). z.0) is)),
+        h.5 ∙ ap (λ (o : Option FoundQuantity). compared o (by_of h.0) (lit_of h.1) s) (sym (ap (λ (z : Option FoundQuantity × List Lexeme). z.0) is)),
       )
 
   -- a comparison of what a name names
@@ -244,14 +244,14 @@ module _ (p : Tables) (r : ℕ) (inner : Reader) (only : OnlyPhrases p r inner) 
       let dot = sign_taken (codes ".") ts b.0 b.1 in
       let k = bind_ok (name_token b.0.1) _ a.0 b.2 in
       let f = name_taken b.0.1 k.0 k.1 in
-      let is : ◌≡◌ {A = Option Found × List Lexeme} (part_named p n.text k.0.0.text, k.0.1) a.0 = ok_is (part_named p n.text k.0.0.text, k.0.1) a.0 k.2 in
+      let is : ◌≡◌ {A = Option FoundQuantity × List Lexeme} (part_named p n.text k.0.0.text, k.0.1) a.0 = ok_is (part_named p n.text k.0.0.text, k.0.1) a.0 k.2 in
       let h = comparison_sound a.0.0 s a.0.1 x a.2 in (
         a_comparison (a_field n dot.0 k.0.0) h.0 h.1,
         ((name, dot.2, f.0), h.2, h.3),
         ap (λ vs. n ∷ vs)
-            (dot.1 ∙ ap (λ vs. dot.0 ∷ vs) (f.1 ∙ ap (λ (z : Option Found × List Lexeme). k.0.0 ∷ z.1) is ∙ ap (λ vs. k.0.0 ∷ vs) h.4)),
+            (dot.1 ∙ ap (λ vs. dot.0 ∷ vs) (f.1 ∙ ap (λ (z : Option FoundQuantity × List Lexeme). k.0.0 ∷ z.1) is ∙ ap (λ vs. k.0.0 ∷ vs) h.4)),
         omega arith,
-        h.5 ∙ ap (λ (o : Option Found). compared o (by_of h.0) (lit_of h.1) s) (sym (ap (λ (z : Option Found × List Lexeme). z.0) is)),
+        h.5 ∙ ap (λ (o : Option FoundQuantity). compared o (by_of h.0) (lit_of h.1) s) (sym (ap (λ (z : Option FoundQuantity × List Lexeme). z.0) is)),
       ))
       (λ other read.
       let h = comparison_sound (plain_named p n.text) s ts x read in
@@ -289,7 +289,7 @@ module _ (p : Tables) (r : ℕ) (inner : Reader) (only : OnlyPhrases p r inner) 
       (λ here read. called_sound (word_of w.text) w s ts x name (word_tells w.text) read)
       (λ other read. named_sound w s ts x name read)
 
-  opened_sound : (o : Opening) (t : Lexeme) (s : Laid) (ts : List Lexeme) (x : Got) → IsOpened t o → opened_at p inner o s (t ∷ ts) ≡ Ok x
+  opened_sound : (o : FormulaOpening) (t : Lexeme) (s : Laid) (ts : List Lexeme) (x : Got) → IsOpened t o → opened_at p inner o s (t ∷ ts) ≡ Ok x
       → IsLaidBy p (suc r) s (t ∷ ts) x
   unfolding opened_at
   opened_sound (openings.Truth value) t s ts x is e =

@@ -5,7 +5,7 @@ use Rattle.std.specs.Prelude.{◌&&◌, not, int_le, pos, codes, Option, None, S
 use Rattle.std.specs.Prelude.{if◌then◌else◌, nat_abs}
 use Rattle.sot_text.specs.Reading.{Lexeme}
 use Rattle.sot_lang.specs.Tables.{Tables}
-use Rattle.sot_tree.specs.declared.tree.Lit.{Lit}
+use Rattle.sot_syntax_tree.specs.declared.tree.Lit.{Lit}
 use Rattle.sot_expression.specs.Lexemes.{begins, is_sign, is_name}
 use Rattle.sot_expression.specs.Readers.{Read, ◌>>=◌, stuck, deep, one_token, expect, number_at}
 use Rattle.sot_expression.specs.Readers.{literal_at}
@@ -15,11 +15,11 @@ use Rattle.sot_formula.specs.declared.what.What.{What}
 use Rattle.sot_formula.specs.declared.what.What.TheVariants as whats
 use Rattle.sot_formula.specs.declared.words.Single.{Single}
 use Rattle.sot_formula.specs.declared.words.Double.{Double}
-use Rattle.sot_formula.specs.declared.words.Opening.{Opening}
-use Rattle.sot_formula.specs.declared.words.Opening.TheVariants as openings
+use Rattle.sot_formula.specs.declared.words.FormulaOpening.{FormulaOpening}
+use Rattle.sot_formula.specs.declared.words.FormulaOpening.TheVariants as openings
 use Rattle.sot_formula.specs.declared.words.Word.{Word}
 use Rattle.sot_formula.specs.declared.words.Word.TheVariants as words
-use Rattle.sot_formula.specs.declared.finding.Found.{Found}
+use Rattle.sot_formula.specs.declared.finding.FoundQuantity.{FoundQuantity}
 use Rattle.sot_formula.specs.Words.{comparing_from, opening_from, word_of, single_what, double_what}
 use Rattle.sot_formula.specs.Finding.{plain_named, part_named, module_named}
 
@@ -41,7 +41,7 @@ abbrev pub put : What → Laid → Laid
 put w s = record { whats = s.whats ++ w ∷ []; unknown = s.unknown; differs = s.differs }
 
 -- a comparison of what was found, or a part in its place
-abbrev pub compared : Option Found → Comparison → Lit → Laid → Laid
+abbrev pub compared : Option FoundQuantity → Comparison → Lit → Laid → Laid
 compared None by z s =
     record { whats = s.whats ++ whats.Truth false ∷ []; unknown = true; differs = s.differs }
 compared (Some x) by z s = record {
@@ -71,7 +71,7 @@ comparing_at ts = do
   Ok (by.0, t.1)
 
 -- the sign and the literal behind a reference
-unfoldable pub comparison_at : Option Found → Laid → List Lexeme → Read Laid
+unfoldable pub comparison_at : Option FoundQuantity → Laid → List Lexeme → Read Laid
 comparison_at found s ts = do
   by ← comparing_at ts
   z ← literal_at by.1
@@ -122,7 +122,7 @@ within_at inner s ts = do
   Ok (put (whats.Within n.0 (place f.0)) f.0, end.1)
 
 -- a module in parentheses
-unfoldable pub mode_at : Tables → List Lexeme → Read (Option Found)
+unfoldable pub mode_at : Tables → List Lexeme → Read (Option FoundQuantity)
 mode_at p ts = do
   begin ← expect (is_sign (codes "(")) ts
   n ← name_token begin.1
@@ -133,7 +133,7 @@ unfoldable pub mode_compared_at : Tables → Reader
 mode_compared_at p s ts = mode_at p ts >>= λ r. comparison_at r.0 s r.1
 
 -- a point and a name behind a name
-unfoldable pub part_at : Tables → Lexeme → List Lexeme → Read (Option Found)
+unfoldable pub part_at : Tables → Lexeme → List Lexeme → Read (Option FoundQuantity)
 part_at p n ts = do
   dot ← expect (is_sign (codes ".")) ts
   f ← name_token dot.1
@@ -159,7 +159,7 @@ behind_name_at p inner n s ts =
     else named_at p n s ts
 
 -- a formula that begins so
-unfoldable pub opened_at : Tables → Reader → Opening → Reader
+unfoldable pub opened_at : Tables → Reader → FormulaOpening → Reader
 opened_at p inner (openings.Truth value) s ts = do
   t ← any_token ts
   Ok (put (whats.Truth value) s, t.1)

@@ -12,8 +12,8 @@ use Rattle.sot_formula.specs.declared.words.Single.{Single}
 use Rattle.sot_formula.specs.declared.words.Single.TheVariants as singles
 use Rattle.sot_formula.specs.declared.words.Double.{Double}
 use Rattle.sot_formula.specs.declared.words.Double.TheVariants as doubles
-use Rattle.sot_formula.specs.declared.words.Opening.{Opening}
-use Rattle.sot_formula.specs.declared.words.Opening.TheVariants as openings
+use Rattle.sot_formula.specs.declared.words.FormulaOpening.{FormulaOpening}
+use Rattle.sot_formula.specs.declared.words.FormulaOpening.TheVariants as openings
 use Rattle.sot_formula.specs.declared.words.Word.{Word}
 use Rattle.sot_formula.specs.declared.words.Word.TheVariants as words
 
@@ -31,7 +31,7 @@ abbrev pub comparing_from : Option Lexeme → Option Comparison
 comparing_from None = None
 comparing_from (Some t) = comparing_of t
 
-abbrev pub opening_of : Lexeme → Opening
+abbrev pub opening_of : Lexeme → FormulaOpening
 opening_of t = first_case openings.Other (
     (is_name t, openings.Name)
     ∷ (is_keyword (codes "true") t, openings.Truth true)
@@ -41,7 +41,7 @@ opening_of t = first_case openings.Other (
     ∷ (is_keyword (codes "or") t, openings.Double doubles.Or)
     ∷ [])
 
-abbrev pub opening_from : Option Lexeme → Opening
+abbrev pub opening_from : Option Lexeme → FormulaOpening
 opening_from None = openings.Other
 opening_from (Some t) = opening_of t
 

@@ -18,7 +18,7 @@ use sot_lang::{ModuleInfo, PlantInfo, ScalarInfo, StateInfo, TopicInfo, Typed};
 
 /// What a reference names, and its scale. Modes and truth values have scale 0.
 #[derive(Clone, Copy)]
-pub struct Found {
+pub struct FoundQuantity {
     pub of: Quantity,
     pub scale: u8,
 }
@@ -83,12 +83,12 @@ fn scale_of(info: &ScalarInfo) -> u8
 }
 
 // A scalar that is no field.
-fn plain_of(k: u32, info: &ScalarInfo) -> Option<Found>
+fn plain_of(k: u32, info: &ScalarInfo) -> Option<FoundQuantity>
     ensures { result ≡ plain_of k info.now }
 {
     match &info.field {
         Some(_) => None,
-        None => Some(Found {
+        None => Some(FoundQuantity {
             of: Quantity::Scalar(k),
             scale: scale_of(info),
         }),
@@ -96,7 +96,7 @@ fn plain_of(k: u32, info: &ScalarInfo) -> Option<Found>
 }
 
 // The scalar at a place, if it is no field.
-fn plain_at(infos: &[ScalarInfo], k: u32) -> Option<Found>
+fn plain_at(infos: &[ScalarInfo], k: u32) -> Option<FoundQuantity>
     ensures { result ≡ option_and_then (plain_of k) (slice_get infos.now k) }
 {
     plain_of(k, infos.get(k as usize)?)
@@ -104,7 +104,7 @@ fn plain_at(infos: &[ScalarInfo], k: u32) -> Option<Found>
 
 /// The topic of this name, where it is one number.
 #[tactic(auto, unfolding(crate::specs::Finding::plain_named))]
-pub fn plain_named(p: &Typed, word: &[u8]) -> Option<Found>
+pub fn plain_named(p: &Typed, word: &[u8]) -> Option<FoundQuantity>
     ensures { result ≡ plain_named p.now word.now }
 {
     let t = topic_place(&p.topics, word)?;
@@ -113,7 +113,7 @@ pub fn plain_named(p: &Typed, word: &[u8]) -> Option<Found>
 
 // The field of this name among so many scalars from a place on.
 #[tactic(auto, unfolding(crate::specs::Finding::field_in))]
-fn field_in(infos: &[ScalarInfo], first: u32, count: u32, word: &[u8]) -> Option<Found>
+fn field_in(infos: &[ScalarInfo], first: u32, count: u32, word: &[u8]) -> Option<FoundQuantity>
     requires there { first + count ≤ length infos.now }
     requires few { length infos.now ≤ 4096 }
     ensures { result ≡ field_in infos.now first count word.now }
@@ -121,14 +121,14 @@ fn field_in(infos: &[ScalarInfo], first: u32, count: u32, word: &[u8]) -> Option
     let own = &infos[first as usize..(first + count) as usize];
     let i = field_place(own, word)?;
     let info = own.get(i)?;
-    Some(Found {
+    Some(FoundQuantity {
         of: Quantity::Scalar(first + i as u32),
         scale: scale_of(info),
     })
 }
 
 #[tactic(auto, unfolding(crate::specs::Finding::field_named))]
-fn field_named(p: &Typed, word: &[u8], field: &[u8]) -> Option<Found>
+fn field_named(p: &Typed, word: &[u8], field: &[u8]) -> Option<FoundQuantity>
     ensures { result ≡ field_named p.now word.now field.now }
 {
     let t = topic_place(&p.topics, word)?;
@@ -138,13 +138,13 @@ fn field_named(p: &Typed, word: &[u8], field: &[u8]) -> Option<Found>
 
 // The state variable of this name among those of a plant.
 #[tactic(auto, unfolding(crate::specs::Finding::variable_in))]
-fn variable_in(states: &[StateInfo], k: u32, word: &[u8]) -> Option<Found>
+fn variable_in(states: &[StateInfo], k: u32, word: &[u8]) -> Option<FoundQuantity>
     requires few { length states.now ≤ 4 }
     ensures { result ≡ variable_in states.now k word.now }
 {
     let v = variable_place(states, word)?;
     let info = states.get(v)?;
-    Some(Found {
+    Some(FoundQuantity {
         of: Quantity::State {
             plant: k,
             var: v as u32,
@@ -154,7 +154,7 @@ fn variable_in(states: &[StateInfo], k: u32, word: &[u8]) -> Option<Found>
 }
 
 #[tactic(auto, unfolding(crate::specs::Finding::variable_named))]
-fn variable_named(p: &Typed, word: &[u8], var: &[u8]) -> Option<Found>
+fn variable_named(p: &Typed, word: &[u8], var: &[u8]) -> Option<FoundQuantity>
     ensures { result ≡ variable_named p.now word.now var.now }
 {
     let k = plant_place(&p.plants, word)?;
@@ -164,7 +164,7 @@ fn variable_named(p: &Typed, word: &[u8], var: &[u8]) -> Option<Found>
 
 /// The field of a topic, or the state variable of a plant, by both names.
 #[tactic(auto, unfolding(crate::specs::Finding::part_named))]
-pub fn part_named(p: &Typed, word: &[u8], part: &[u8]) -> Option<Found>
+pub fn part_named(p: &Typed, word: &[u8], part: &[u8]) -> Option<FoundQuantity>
     ensures { result ≡ part_named p.now word.now part.now }
 {
     match field_named(p, word, part) {
@@ -175,12 +175,12 @@ pub fn part_named(p: &Typed, word: &[u8], part: &[u8]) -> Option<Found>
 
 /// The mode of the module of this name.
 #[tactic(auto, unfolding(crate::specs::Finding::module_named))]
-pub fn module_named(p: &Typed, word: &[u8]) -> Option<Found>
+pub fn module_named(p: &Typed, word: &[u8]) -> Option<FoundQuantity>
     ensures { result ≡ module_named p.now word.now }
 {
     let count = p.modules.len();
     match module_place(&p.modules, word) {
-        Some(m) if m < count => Some(Found {
+        Some(m) if m < count => Some(FoundQuantity {
             of: Quantity::Mode(m as u32),
             scale: 0,
         }),

@@ -4,11 +4,11 @@ ghost use Rattle.std.specs.Prelude.{◌≡◌, [], ◌||◌, ◌==◌, not};
 ghost use Rattle.sot_formula.specs.Reading.{none_laid, place, put, compared};
 ghost use Rattle.sot_expression.specs.Returned.{Makes};
 
-use crate::finding::Found;
+use crate::finding::FoundQuantity;
 use crate::quantity::Comparison;
 use crate::what::What;
 use sot_expression::Fail;
-use sot_tree::Lit;
+use sot_syntax_tree::Lit;
 use std::alloc::Global;
 use std::marker::Model;
 
@@ -60,7 +60,7 @@ pub fn put(mut laid: Laid, what: What) -> Result<Laid, Fail>
 /// A comparison more, of what was found, or a part in its place.
 pub fn compared(
     mut laid: Laid,
-    found: Option<Found>,
+    found: Option<FoundQuantity>,
     by: Comparison,
     literal: Lit,
 ) -> Result<Laid, Fail>

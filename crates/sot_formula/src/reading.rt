@@ -9,17 +9,18 @@ ghost use Rattle.sot_formula.specs.Reading.{within_at, mode_at, mode_compared_at
 ghost use Rattle.sot_formula.specs.Reading.{named_at, called_at, behind_name_at, opened_at};
 ghost use Rattle.sot_formula.specs.Reading.{formula_at};
 
-use crate::finding::{Found, module_named, part_named, plain_named};
+use crate::finding::{FoundQuantity, module_named, part_named, plain_named};
 use crate::laid::{Laid, compared, put};
 use crate::quantity::Comparison;
 use crate::what::What;
 use crate::words::{
-    Double, Opening, Single, Word, comparing, double_what, next_opening, single_what, word_of,
+    Double, FormulaOpening, Single, Word, comparing, double_what, next_opening, single_what,
+    word_of,
 };
 use sot_expression::{Fail, Tokens, expect_sign, is_sign, literal, number};
 use sot_lang::Typed;
+use sot_syntax_tree::Lit;
 use sot_text::{Kind, Token};
-use sot_tree::Lit;
 
 // The next token, whatever it is.
 fn any_token<'a>(tokens: &mut Tokens<'a>) -> Result<Token<'a>, Fail>
@@ -61,7 +62,11 @@ fn comparing_sign(tokens: &mut Tokens<'_>) -> Result<Comparison, Fail>
 
 // The sign and the literal behind a reference.
 #[tactic(auto, unfolding(crate::specs::Reading::comparison_at))]
-fn comparison(tokens: &mut Tokens<'_>, laid: Laid, found: Option<Found>) -> Result<Laid, Fail>
+fn comparison(
+    tokens: &mut Tokens<'_>,
+    laid: Laid,
+    found: Option<FoundQuantity>,
+) -> Result<Laid, Fail>
     ensures { Gives (λ s. s) result tokens.old tokens.new
         (comparison_at found laid tokens.old.tokens) }
 {
@@ -92,7 +97,7 @@ fn ticks(tokens: &mut Tokens<'_>) -> Result<u32, Fail>
 
 // A module in parentheses.
 #[tactic(auto, unfolding(crate::specs::Reading::mode_at))]
-fn mode(p: &Typed, tokens: &mut Tokens<'_>) -> Result<Option<Found>, Fail>
+fn mode(p: &Typed, tokens: &mut Tokens<'_>) -> Result<Option<FoundQuantity>, Fail>
     ensures { Gives (λ found. found) result tokens.old tokens.new
         (mode_at p.now tokens.old.tokens) }
 {
@@ -113,7 +118,7 @@ fn mode_compared(p: &Typed, tokens: &mut Tokens<'_>, laid: Laid) -> Result<Laid,
 
 // A point and a name behind a name.
 #[tactic(auto, unfolding(crate::specs::Reading::part_at))]
-fn part(p: &Typed, tokens: &mut Tokens<'_>, name: Token<'_>) -> Result<Option<Found>, Fail>
+fn part(p: &Typed, tokens: &mut Tokens<'_>, name: Token<'_>) -> Result<Option<FoundQuantity>, Fail>
     ensures { Gives (λ found. found) result tokens.old tokens.new
         (part_at p.now (lexeme name.entry) tokens.old.tokens) }
 {
@@ -252,30 +257,30 @@ fn opened(
     tokens: &mut Tokens<'_>,
     laid: Laid,
     room: u32,
-    opening: Opening,
+    opening: FormulaOpening,
 ) -> Result<Laid, Fail>
     ensures { Gives (λ s. s) result tokens.old tokens.new
         (opened_at p.now (formula_at p.now room) opening laid tokens.old.tokens) }
 {
     match opening {
-        Opening::Truth(value) => {
+        FormulaOpening::Truth(value) => {
             any_token(tokens)?;
             let more = put(laid, What::Truth(value))?;
             Ok(more)
         }
-        Opening::Single(o) => {
+        FormulaOpening::Single(o) => {
             any_token(tokens)?;
             single(p, tokens, laid, room, o)
         }
-        Opening::Double(o) => {
+        FormulaOpening::Double(o) => {
             any_token(tokens)?;
             double(p, tokens, laid, room, o)
         }
-        Opening::Name => {
+        FormulaOpening::Name => {
             let name = name_token(tokens)?;
             behind_name(p, tokens, laid, room, name)
         }
-        Opening::Other => Err(Fail::Token),
+        FormulaOpening::Other => Err(Fail::Token),
     }
 }
 

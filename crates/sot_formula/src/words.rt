@@ -29,7 +29,7 @@ pub enum Double {
 
 /// What a formula begins with.
 #[derive(Clone, Copy)]
-pub enum Opening {
+pub enum FormulaOpening {
     Truth(bool),
     Single(Single),
     Double(Double),
@@ -74,33 +74,33 @@ pub fn comparing(tokens: &Tokens<'_>) -> Option<Comparison>
     comparing_of(&tokens.peek()?)
 }
 
-fn opening_of(token: &Token<'_>) -> Opening
+fn opening_of(token: &Token<'_>) -> FormulaOpening
     ensures { result ≡ opening_of (lexeme token.now) }
 {
     if matches!(token.kind, Kind::Name) {
-        Opening::Name
+        FormulaOpening::Name
     } else if token_is_keyword(token, b"true") {
-        Opening::Truth(true)
+        FormulaOpening::Truth(true)
     } else if token_is_keyword(token, b"false") {
-        Opening::Truth(false)
+        FormulaOpening::Truth(false)
     } else if token_is_keyword(token, b"not") {
-        Opening::Single(Single::Not)
+        FormulaOpening::Single(Single::Not)
     } else if token_is_keyword(token, b"and") {
-        Opening::Double(Double::And)
+        FormulaOpening::Double(Double::And)
     } else if token_is_keyword(token, b"or") {
-        Opening::Double(Double::Or)
+        FormulaOpening::Double(Double::Or)
     } else {
-        Opening::Other
+        FormulaOpening::Other
     }
 }
 
 /// What the next token begins.
-pub fn next_opening(tokens: &Tokens<'_>) -> Opening
+pub fn next_opening(tokens: &Tokens<'_>) -> FormulaOpening
     ensures { result ≡ opening_from (first_of tokens.now.tokens) }
 {
     match tokens.peek() {
         Some(token) => opening_of(&token),
-        None => Opening::Other,
+        None => FormulaOpening::Other,
     }
 }
 

@@ -17,8 +17,8 @@ use Rattle.sot_world.specs.Steps.{Code, Fires, CodeFires, is_enabled, published}
 use Rattle.sot_world.proofs.Parts.{published_padded}
 use Rattle.sot_world.proofs.Safety.{code_runs}
 use Rattle.sot_world.proofs.FiringSteps.{code_so}
-use Rattle.sot_law_observed.proofs.Steps.{step_keeps}
-use Rattle.sot_law_observed.specs.Tubes.{KeepsTubes}
+use Rattle.sot_law_observed_runs.proofs.Steps.{step_keeps}
+use Rattle.sot_law_observed_runs.specs.Tubes.{KeepsTubes}
 use Rattle.sot_guard.specs.Guarding.{IsGuarding}
 use Rattle.sot_guard.specs.Running.{RunsTo}
 use Rattle.sot_guard.specs.Changes.{FiresCode}

@@ -32,9 +32,9 @@ use Rattle.sot_world.specs.Changes.{IsThere, AreThere, ArePoints}
 use Rattle.sot_world.proofs.Modes.{scalars_length}
 use Rattle.sot_world.proofs.Publishes.{publish_within}
 use Rattle.sot_world.proofs.Writes.{write_within}
-use Rattle.sot_law_observed.specs.Tubes.{KeepsTubes}
-use Rattle.sot_law_observed.proofs.Ticking.{next_boxes}
-use Rattle.sot_law_observed.proofs.Steps.{opening_keeps}
+use Rattle.sot_law_observed_runs.specs.Tubes.{KeepsTubes}
+use Rattle.sot_law_observed_runs.proofs.Ticking.{next_boxes}
+use Rattle.sot_law_observed_runs.proofs.Steps.{opening_keeps}
 use Rattle.sot_guard.specs.Guarding.{IsGuarding}
 use Rattle.sot_guard.specs.Outside.{HaveBoxes}
 use Rattle.sot_guard.specs.Running.{MayRunOn}

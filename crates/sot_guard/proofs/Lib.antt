@@ -6,3 +6,5 @@ pub mod Along
 pub mod Firing
 pub mod Instants
 pub mod LineObserved
+pub mod Talks
+pub mod AlongSession

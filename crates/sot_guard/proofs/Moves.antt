@@ -19,10 +19,10 @@ use Rattle.sot_world.specs.Configurations.{Configuration, is_left, is_left_dm, m
 use Rattle.sot_world.specs.Steps.{Decide}
 use Rattle.sot_world.specs.Calendar.{NothingLeft}
 use Rattle.sot_world.specs.Changes.{ArePoints}
-use Rattle.sot_law_observed.specs.Observed.{ObservedTick}
-use Rattle.sot_law_observed.specs.Tubes.{KeepsTubes}
-use Rattle.sot_law_observed.proofs.Steps.{step_keeps}
-use Rattle.sot_law_observed.proofs.Ticking.{tick_keeps}
+use Rattle.sot_law_observed_runs.specs.Observed.{ObservedTick}
+use Rattle.sot_law_observed_runs.specs.Tubes.{KeepsTubes}
+use Rattle.sot_law_observed_runs.proofs.Steps.{step_keeps}
+use Rattle.sot_law_observed_runs.proofs.Ticking.{tick_keeps}
 use Rattle.sot_world.proofs.Stepping.{decides_so}
 use Rattle.sot_guard.specs.Guarding.{Guarding, IsGuarding}
 use Rattle.sot_guard.proofs.Guards.{well}

@@ -18,7 +18,7 @@ use Rattle.sot_world.specs.Configurations.{Configuration, is_left, is_left_dm}
 use Rattle.sot_world.specs.Configurations.{mode_of, locals_of}
 use Rattle.sot_world.specs.Steps.{Fires, Decides, is_enabled}
 use Rattle.sot_world.specs.declared.outcome.Firing.{Firing}
-use Rattle.sot_law_observed.specs.Observed.{ObservedTick}
+use Rattle.sot_law_observed_runs.specs.Observed.{ObservedTick}
 use Rattle.sot_guard.specs.declared.outside.Outside.{Outside}
 use Rattle.sot_guard.specs.Outside.{IsFirstOutside}
 use Rattle.sot_guard.specs.Guarding.{Guarding}

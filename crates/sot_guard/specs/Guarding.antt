@@ -10,7 +10,7 @@ use Rattle.sot_tube.specs.Certified.{IsWellCertified}
 use Rattle.sot_world.specs.declared.mode.Mode.TheVariants.{Sc}
 use Rattle.sot_world.specs.Configurations.{Configuration, IsSized, mode_of, locals_of}
 use Rattle.sot_world.specs.Changes.{ArePoints}
-use Rattle.sot_law_observed.specs.Tubes.{KeepsTubes}
+use Rattle.sot_law_observed_runs.specs.Tubes.{KeepsTubes}
 
 -- an accepted program, whether its models are trusted, since no plant was observed outside its box,
 -- and the configuration that the mission is in

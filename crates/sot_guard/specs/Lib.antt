@@ -4,7 +4,10 @@ pub mod Guarding
 pub mod Changes
 pub mod Instants
 pub mod Examples
+pub mod Hearing
+pub mod Conversations
 -- between the crate's own functions
 pub mod GuardView
 pub mod Running
 pub mod InstantParts
+pub mod SessionView

@@ -2,7 +2,7 @@
 use Rattle.std.proofs.Common.{pos, negsuc, false, [], ◌∷◌, refl, ap, subst, arith}
 use Rattle.std.specs.Global.{Global}
 use Rattle.std.proofs.lemmas.Int.{ints}
-use Rattle.sot_tree.specs.declared.operator.Op.TheVariants.{Add}
+use Rattle.sot_syntax_tree.specs.declared.operator.Op.TheVariants.{Add}
 use Rattle.sot_lang.specs.declared.term.Term.TheVariants.{Number, Place, Binary', If'}
 use Rattle.sot_lang.specs.declared.act.Act.TheVariants.{Publish}
 use Rattle.sot_lang.specs.Line.{somewhere, boxed, slow_acts}

@@ -1,8 +1,8 @@
 -- Worked intervals, computed by the ends.
 use Rattle.std.proofs.Common.{pos, negsuc, [], ◌∷◌, refl, arith}
 use Rattle.std.proofs.lemmas.Int.{ints}
-use Rattle.sot_tree.specs.declared.operator.Op.TheVariants.{Add, Mul, Less}
-use Rattle.sot_tree.specs.declared.operator.Func.TheVariants.{Abs}
+use Rattle.sot_syntax_tree.specs.declared.operator.Op.TheVariants.{Add, Mul, Less}
+use Rattle.sot_syntax_tree.specs.declared.operator.Func.TheVariants.{Abs}
 use Rattle.sot_iv.specs.TermIntervals.{rest_result}
 use Rattle.sot_iv.specs.Ends.{quotient_or_trap}
 use Rattle.sot_iv.specs.Examples.{from_to, ProductRow, QuotientRow, ZeroRow, WideRow, RestRows, MagnitudeRow, ComparisonRows, DraftRows}

@@ -7,10 +7,10 @@ use Rattle.std.proofs.lemmas.Int.{ints, clamps}
 use Rattle.sot_text.specs.declared.token.Span.{Span}
 use Rattle.sot_box.specs.Sides.{Side, IsIn, AreOrdered}
 use Rattle.sot_box.specs.Boxes.{IsWithin}
-use Rattle.sot_tree.specs.declared.operator.Func.{Func}
-use Rattle.sot_tree.specs.declared.operator.Func.TheVariants.{Min, Max, Abs, Clamp}
+use Rattle.sot_syntax_tree.specs.declared.operator.Func.{Func}
+use Rattle.sot_syntax_tree.specs.declared.operator.Func.TheVariants.{Min, Max, Abs, Clamp}
 use Rattle.sot_lang.specs.Values.{truth, is_true}
-use Rattle.sot_tree.specs.Functions.{arity}
+use Rattle.sot_syntax_tree.specs.Functions.{arity}
 use Rattle.sot_iv.specs.TermIntervals.{IsLeast, IsFitted, IsImage, neg_result, not_result, rescale_result, called_result}
 use Rattle.sot_iv.specs.Ends.{side, fitted, truths, is_always, is_ever, negation, denied, magnitude, least_side, greatest_side, clamped, rescaled}
 use Rattle.sot_iv.specs.Evaluation.{called_side}

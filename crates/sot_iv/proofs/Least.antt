@@ -6,8 +6,8 @@ use Rattle.std.proofs.lemmas.Bool.{cases_Bool, and_parts, and_from}
 use Rattle.std.proofs.lemmas.Int.{ints, clamps}
 use Rattle.sot_text.specs.declared.token.Span.{Span}
 use Rattle.sot_box.specs.Sides.{Side, IsIn}
-use Rattle.sot_tree.specs.declared.operator.Op.{Op}
-use Rattle.sot_tree.specs.declared.operator.Op.TheVariants.{Add, Sub, Mul, Div}
+use Rattle.sot_syntax_tree.specs.declared.operator.Op.{Op}
+use Rattle.sot_syntax_tree.specs.declared.operator.Op.TheVariants.{Add, Sub, Mul, Div}
 use Rattle.sot_lang.specs.Values.{is_word}
 use Rattle.sot_iv.specs.TermIntervals.{IsLeast, IsResult, IsFitted, IsIntervalHull, IsWordRange, result}
 use Rattle.sot_iv.specs.Ends.{fitted, sum, difference, product, quotient, by_corners, least_of, greatest_of, hull, holds_zero}

@@ -6,7 +6,7 @@ use Rattle.std.proofs.lemmas.Bool.{cases_Bool, and_parts, and_from, or_from, or_
 use Rattle.std.proofs.lemmas.Bool.{or_left}
 use Rattle.std.proofs.lemmas.Int.{ints, clamps}
 use Rattle.sot_box.specs.Sides.{Side, IsIn}
-use Rattle.sot_tree.specs.declared.operator.Op.{Op}
+use Rattle.sot_syntax_tree.specs.declared.operator.Op.{Op}
 use Rattle.sot_lang.specs.Values.{truth, is_true}
 use Rattle.sot_iv.specs.TermIntervals.{IsLeast, IsResult, CanBe, result}
 use Rattle.sot_iv.specs.Ends.{truths, holds_zero, is_always, is_ever}

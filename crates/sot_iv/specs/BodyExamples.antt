@@ -4,7 +4,7 @@ use Rattle.std.specs.Prelude.{pos, negsuc, List, [], ◌∷◌, Ok, Err}
 use Rattle.std.proofs.Common.{refl}
 use Rattle.std.specs.Global.{Vec, Global}
 use Rattle.sot_text.specs.declared.token.Span.{Span}
-use Rattle.sot_tree.specs.declared.operator.Op.TheVariants.{Add, Div, Less}
+use Rattle.sot_syntax_tree.specs.declared.operator.Op.TheVariants.{Add, Div, Less}
 use Rattle.sot_lang.specs.declared.term.Term.{Term}
 use Rattle.sot_lang.specs.declared.term.Term.TheVariants.{Number, Place, Binary', If'}
 use Rattle.sot_lang.specs.declared.act.Act.{Act, If}

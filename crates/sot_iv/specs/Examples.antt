@@ -2,8 +2,8 @@
 use Rattle.std.specs.Prelude.{ℤ, pos, negsuc, [], ◌∷◌, Ok, Err}
 use Rattle.sot_text.specs.declared.token.Span.{Span}
 use Rattle.sot_box.specs.Sides.{Side}
-use Rattle.sot_tree.specs.declared.operator.Op.TheVariants.{Add, Mul, Div, Less}
-use Rattle.sot_tree.specs.declared.operator.Func.TheVariants.{Abs}
+use Rattle.sot_syntax_tree.specs.declared.operator.Op.TheVariants.{Add, Mul, Div, Less}
+use Rattle.sot_syntax_tree.specs.declared.operator.Func.TheVariants.{Abs}
 use Rattle.sot_lang.specs.declared.trap.TrapKind.TheVariants.{ZeroDivisor, Wide}
 use Rattle.sot_iv.specs.declared.drafted.Drafted.TheVariants.{Absent, Maybe, Sure}
 use Rattle.sot_iv.specs.TermIntervals.{IsLeastResult, IsImage, rest_result, called_result}

@@ -6,8 +6,8 @@ ghost use Rattle.sot_iv.specs.Ends.{magnitude, least_side, greatest_side, clampe
 
 use crate::{MayTrap, ends};
 use sot_box::Interval;
+use sot_syntax_tree::Op;
 use sot_text::Span;
-use sot_tree::Op;
 
 fn divide(at: Span, a: Interval, b: Interval) -> Result<Interval, MayTrap>
     ensures { result ≡ quotient_or_trap at a b }

@@ -2,7 +2,7 @@
 
 ghost use Rattle.std.specs.Prelude.{◌≡◌, ◌+◌, ◌<◌, ◌≤◌, ◌≤ℤ◌, ◌++◌, pos, Ok, length};
 ghost use Rattle.std.specs.Prelude.{slice_index_or};
-ghost use Rattle.sot_tree.specs.Functions.{arity};
+ghost use Rattle.sot_syntax_tree.specs.Functions.{arity};
 ghost use Rattle.sot_lang.specs.TermPlaces.{HasPlaces, HavePlaces};
 ghost use Rattle.sot_box.specs.Sides.{nought};
 ghost use Rattle.sot_iv.specs.TermIntervals.{IsTermInterval};
@@ -13,8 +13,8 @@ ghost use Rattle.sot_iv.specs.Ends.{fitted, rest, negation, denied, rescaled};
 use crate::{MayTrap, Ranges, ends, operators};
 use sot_box::Interval;
 use sot_lang::{Term, TrapKind};
+use sot_syntax_tree::Func;
 use sot_text::Span;
-use sot_tree::Func;
 
 /// The least interval of an expression over these ranges of its names, operator by operator, or the
 /// first operands of which some trap. Its places are below the count of the ranges, its calls have

@@ -8,8 +8,3 @@ escape_of b = if b == 126 then 126 ∷ 48 ∷ [] else (if b == 47 then 126 ∷ 4
 
 abbrev pub escaped : List ℕ → List ℕ
 escaped name = flat_map escape_of name
-
--- the root, which is the empty pointer, is printed as `/`
-abbrev pub printed : List ℕ → List ℕ
-printed [] = codes "/"
-printed (b ∷ bs) = b ∷ bs

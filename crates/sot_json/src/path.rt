@@ -1,7 +1,7 @@
 //! A JSON pointer: where a value stands in a JSON text.
 ghost use Rattle.std.specs.Prelude.{◌≡◌, ℕ, List, [], ◌∷◌, ◌++◌, IfOk, OnOk, encode_utf8};
 ghost use Rattle.std.specs.Prelude.{string_bytes};
-ghost use Rattle.sot_json.specs.Pointers.{escaped, printed};
+ghost use Rattle.sot_json.specs.Pointers.{escaped};
 
 use std::alloc::{AllocError, Global};
 use std::marker::Model;
@@ -41,14 +41,6 @@ impl Path {
         ensures { result.now ≡ self.now }
     {
         self.text.as_str()
-    }
-
-    /// The text to be printed: `/` for the root.
-    pub fn as_printed(&self) -> &str
-        ensures { result.now ≡ printed self.now }
-    {
-        let text = self.text.as_str();
-        if text.is_empty() { "/" } else { text }
     }
 }
 

@@ -3,13 +3,13 @@ use Rattle.std.proofs.Common.{◌≡◌, ℕ, ℤ, Bool, List, [], ◌∷◌, ze
 use Rattle.std.specs.Global.{Vec}
 use Rattle.sot_text.specs.declared.token.Span.{Span}
 use Rattle.sot_lists.specs.Places.{At}
-use Rattle.sot_tree.specs.declared.operator.Func.{Func}
+use Rattle.sot_syntax_tree.specs.declared.operator.Func.{Func}
 use Rattle.sot_lang.specs.declared.term.Term.{Term, Call, Row_of-Term, end_of-Term, more_of-Term, items-the_row-Term, items_hidden-the_row-Term-0}
 use Rattle.sot_lang.specs.declared.term.Term.TheBlock.{hidden-the_row-Term-0}
 use Rattle.sot_lang.specs.Values.{value_of, values_of_parts, one_more, then_with, called}
 use Rattle.sot_lang.specs.Ticks.{values}
 use Rattle.sot_lang.specs.TermRules.{TermFits, PartsFit, TermsFit}
-use Rattle.sot_tree.specs.Functions.{arity}
+use Rattle.sot_syntax_tree.specs.Functions.{arity}
 
 values_items : {m : _} (ts : Row_of-Term m) (env : List ℤ) → values_of_parts ts env ≡ values (items-the_row-Term _ ts) env
 values_items end_of-Term env = refl

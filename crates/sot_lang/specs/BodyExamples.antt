@@ -4,7 +4,7 @@ use Rattle.std.proofs.Common.{refl}
 use Rattle.std.specs.Global.{Vec, Global}
 use Rattle.sot_box.specs.Sides.{Side}
 use Rattle.sot_lang.specs.declared.trap.TrapKind.TheVariants.{ZeroDivisor, OutsideRange}
-use Rattle.sot_tree.specs.declared.operator.Op.TheVariants.{Add}
+use Rattle.sot_syntax_tree.specs.declared.operator.Op.TheVariants.{Add}
 use Rattle.sot_lang.specs.declared.term.Term.{Term}
 use Rattle.sot_lang.specs.declared.term.Term.TheVariants.{Number, Place, Binary'}
 use Rattle.sot_lang.specs.declared.act.Act.{If, Repeat}

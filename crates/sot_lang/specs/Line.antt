@@ -15,7 +15,7 @@ use denote.RawPtr.{null_ptr}
 use Rattle.std.specs.Global.{Vec, Box, Global}
 use Rattle.sot_text.specs.declared.token.Span.{Span}
 use Rattle.sot_box.specs.Sides.{Side}
-use Rattle.sot_tree.specs.declared.operator.Op.TheVariants.{Add, Greater, Less}
+use Rattle.sot_syntax_tree.specs.declared.operator.Op.TheVariants.{Add, Greater, Less}
 use Rattle.sot_lang.specs.declared.term.Term.{Term}
 use Rattle.sot_lang.specs.declared.term.Term.TheVariants.{Number, Place, Binary', If'}
 use Rattle.sot_lang.specs.declared.act.Act.{Act}

@@ -5,7 +5,7 @@ use Rattle.sot_lang.specs.declared.term.Term.{Term, Row_of-Term, end_of-Term, mo
 use Rattle.sot_lang.specs.declared.term.Term.{items-the_row-Term}
 use Rattle.sot_lang.specs.declared.term.Term.TheVariants.{Number, Place, Binary', Rest', Neg', Not'}
 use Rattle.sot_lang.specs.declared.term.Term.TheVariants.{Call', Rescale', If'}
-use Rattle.sot_tree.specs.Functions.{arity}
+use Rattle.sot_syntax_tree.specs.Functions.{arity}
 
 -- each place is below n, each call has the parts of its function, the divisor of a rest is at least
 -- 1, and scales are at most 6

@@ -4,14 +4,14 @@ use Rattle.std.specs.Prelude.{◌≡◌, ◌<◌, ◌≤◌, pos, ◌≤ℤ◌, 
 use Rattle.std.specs.Prelude.{length, map}
 use Rattle.sot_box.specs.Sides.{Side}
 use Rattle.sot_lists.specs.Places.{At}
-use Rattle.sot_tree.specs.declared.operator.Op.{Op}
-use Rattle.sot_tree.specs.declared.operator.Op.TheVariants.{Add, Sub, Mul, Div, And, Or}
+use Rattle.sot_syntax_tree.specs.declared.operator.Op.{Op}
+use Rattle.sot_syntax_tree.specs.declared.operator.Op.TheVariants.{Add, Sub, Mul, Div, And, Or}
 use Rattle.sot_lang.specs.declared.term.Term.{Term, Row_of-Term, end_of-Term, more_of-Term}
 use Rattle.sot_lang.specs.declared.term.Term.{items-the_row-Term}
 use Rattle.sot_lang.specs.declared.term.Term.TheVariants.{Number, Place, Binary', Rest', Neg', Not'}
 use Rattle.sot_lang.specs.declared.term.Term.TheVariants.{Call', Rescale', If'}
 use Rattle.sot_lang.specs.Values.{is_word}
-use Rattle.sot_tree.specs.Functions.{arity}
+use Rattle.sot_syntax_tree.specs.Functions.{arity}
 
 -- the operator gives a truth value: a comparison, `and`, `or`
 abbrev pub GivesTruth : Op → Type 0

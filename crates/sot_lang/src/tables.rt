@@ -3,7 +3,7 @@
 use crate::act::Act;
 use crate::term::Term;
 use sot_box::Region;
-use sot_tree::Name;
+use sot_syntax_tree::Name;
 
 /// A topic, whose scalars are `first` and the next `count - 1`. `outside` marks an environment
 /// topic, which only inputs write.

@@ -1,7 +1,7 @@
 //! Expressions whose names are places.
 
+use sot_syntax_tree::{Func, Op};
 use sot_text::Span;
-use sot_tree::{Func, Op};
 
 /// An expression whose names are places: of a node its read slots and then its locals; of a plant
 /// its state variables, its inputs, the states of the plants that it sees, and its disturbances, in

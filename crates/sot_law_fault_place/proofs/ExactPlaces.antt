@@ -6,7 +6,7 @@ use Rattle.std.proofs.lemmas.Bool.Decides.{nat_tests}
 use Rattle.sot_text.specs.declared.token.LexFault.{LexFault}
 use Rattle.sot_text.specs.Reading.{Lexeme}
 use Rattle.sot_text.specs.Ahead.{Ahead, ahead_from}
-use Rattle.sot_tree.specs.Trees.{Program, Declaration}
+use Rattle.sot_syntax_tree.specs.Trees.{Program, Declaration}
 use Rattle.sot_expression.specs.Stream.{first_of}
 use Rattle.sot_expression.specs.Readers.{Read, stuck, deep, ◌>>=◌}
 use Rattle.sot_parser.specs.declared.syntax.Syntax.{Syntax}

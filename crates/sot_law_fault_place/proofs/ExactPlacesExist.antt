@@ -4,7 +4,7 @@ use Rattle.std.proofs.Common.{◌∙◌, append_assoc, arith}
 use Rattle.sot_text.specs.declared.token.LexFault.{LexFault}
 use Rattle.sot_text.specs.Reading.{Lexeme}
 use Rattle.sot_text.specs.Ahead.{Ahead}
-use Rattle.sot_tree.specs.Trees.{Declaration}
+use Rattle.sot_syntax_tree.specs.Trees.{Declaration}
 use Rattle.sot_expression.specs.Stream.{first_of}
 use Rattle.sot_expression.specs.Readers.{Read, Fault, stuck, deep}
 use Rattle.sot_parser.specs.declared.syntax.Syntax.{Syntax}

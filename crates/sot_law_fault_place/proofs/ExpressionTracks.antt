@@ -4,9 +4,9 @@ use Rattle.std.proofs.Common.{Option, None, Some, inl, inr, Ok, Err, refl, sym, 
 use Rattle.std.proofs.lemmas.Bool.{cases_Bool}
 use Rattle.std.proofs.lemmas.Bool.Decides.{nat_tests}
 use Rattle.sot_text.specs.Reading.{Lexeme}
-use Rattle.sot_tree.specs.declared.operator.Func.{Func}
-use Rattle.sot_tree.specs.declared.tree.Ident.{Ident}
-use Rattle.sot_tree.specs.Trees.{negated}
+use Rattle.sot_syntax_tree.specs.declared.operator.Func.{Func}
+use Rattle.sot_syntax_tree.specs.declared.tree.Ident.{Ident}
+use Rattle.sot_syntax_tree.specs.Trees.{negated}
 use Rattle.sot_expression.specs.declared.operators.Infix.{Infix}
 use Rattle.sot_expression.specs.declared.operators.Infix.TheVariants.{Joins, Rests}
 use Rattle.sot_expression.specs.declared.operators.Opening.{Opening}

@@ -3,7 +3,7 @@ use Rattle.std.proofs.Common.{◌≡◌, ℕ, zero, suc, cond, ◌==◌, ◌||�
 use Rattle.std.proofs.Common.{append_assoc, arith}
 use Rattle.std.proofs.lemmas.Bool.Decides.{nat_tests}
 use Rattle.sot_text.specs.Reading.{Lexeme}
-use Rattle.sot_tree.specs.Trees.{Tree, Statement, Block}
+use Rattle.sot_syntax_tree.specs.Trees.{Tree, Statement, Block}
 use Rattle.sot_expression.specs.Lexemes.{begins, is_sign, is_keyword, is_name}
 use Rattle.sot_expression.specs.Readers.{Read, Fault, deep}
 use Rattle.sot_expression.specs.ExpressionReaders.{tree_at}

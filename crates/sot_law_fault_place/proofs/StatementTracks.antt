@@ -3,7 +3,7 @@ use Rattle.std.proofs.Common.{◌≡◌, ℕ, zero, suc, ◌≤◌, ◌==◌, �
 use Rattle.std.proofs.lemmas.Bool.Decides.{nat_tests}
 use Rattle.std.proofs.lemmas.Bool.{or_parts}
 use Rattle.sot_text.specs.Reading.{Lexeme}
-use Rattle.sot_tree.specs.Trees.{Tree, Statement, Block, no_statement}
+use Rattle.sot_syntax_tree.specs.Trees.{Tree, Statement, Block, no_statement}
 use Rattle.sot_expression.specs.Lexemes.{begins, is_sign, is_keyword, is_name, ident}
 use Rattle.sot_expression.specs.Readers.{Read, stuck, deep, one_token, name_at}
 use Rattle.sot_expression.specs.ExpressionReaders.{tree_at}

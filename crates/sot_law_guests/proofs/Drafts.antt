@@ -10,8 +10,8 @@ use Rattle.sot_world.specs.HistoryEntry.{Logged, FireAt}
 use Rattle.sot_flight.specs.Plans.{Plan}
 use Rattle.sot_board.specs.Versions.{drafts_of}
 use Rattle.sot_board.proofs.Entries.{drafts_append}
-use Rattle.sot_node_worker.specs.Askings.{Asking}
-use Rattle.sot_node_worker.specs.Answers.{HasAnswered}
+use Rattle.sot_fly_worker.specs.Askings.{Asking}
+use Rattle.sot_fly_worker.specs.Answers.{HasAnswered}
 use Rattle.sot_law_guests.specs.Laws.{draft_given, FitsGiveDrafts, AskingsGiveDrafts, OneHistoryOneListOfDrafts, ListsAreOfOneHistory, ListsAreTheAskings}
 
 -- behind a list stands what comes after it

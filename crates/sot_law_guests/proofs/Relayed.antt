@@ -24,8 +24,8 @@ use Rattle.sot_flight.specs.Plans as plan
 use Rattle.sot_board.specs.Flown.{Position, Flies, IsStart, Leads, FlownSoFar, FlownBy}
 use Rattle.sot_board.specs.Versions.{drafts_of}
 use Rattle.sot_board.proofs.Same.{from_front}
-use Rattle.sot_node_worker.specs.Askings.{Asking, asking}
-use Rattle.sot_node_worker.specs.Answers.{FitsFiring, HasAnswered, Answered}
+use Rattle.sot_fly_worker.specs.Askings.{Asking, asking}
+use Rattle.sot_fly_worker.specs.Answers.{FitsFiring, HasAnswered, Answered}
 use Rattle.sot_workers.specs.declared.lists.NodeList.{NodeList}
 use Rattle.sot_workers.specs.Lists.{AreLists}
 use Rattle.sot_law_guests.specs.Examples.{asked_copy, asked_relay, asked_flight, asked_history, comes, drafted, FitsByHand, FitAsStated, SeenByHand}

@@ -24,7 +24,7 @@ use Rattle.sot_board.proofs.Going.{time_goes}
 use Rattle.sot_board.proofs.Same.{from_front}
 use Rattle.sot_board.proofs.Between.{instant_keeps}
 use Rattle.sot_board.proofs.Entries.{drafts_append}
-use Rattle.sot_node_worker.proofs.Histories.{same_drafts}
+use Rattle.sot_fly_worker.proofs.Histories.{same_drafts}
 use Rattle.sot_law_guests.specs.Sights.{SeenAreRecent, GuestsAreAnswered}
 use Rattle.sot_law_guests.proofs.Drafts.{all_given}
 

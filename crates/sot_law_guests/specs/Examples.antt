@@ -11,8 +11,8 @@ use Rattle.sot_tube.specs.Admitted.{Admitted}
 use Rattle.sot_world.specs.Examples.{relay, copy}
 use Rattle.sot_world.specs.HistoryEntry.{Logged, InputAt, FireAt, TickAt}
 use Rattle.sot_flight.specs.Plans.{StatedInput, Plan, Guest}
-use Rattle.sot_node_worker.specs.Askings.{Asking}
-use Rattle.sot_node_worker.specs.Answers.{FitsFiring, HasAnswered}
+use Rattle.sot_fly_worker.specs.Askings.{Asking}
+use Rattle.sot_fly_worker.specs.Answers.{FitsFiring, HasAnswered}
 use Rattle.sot_workers.specs.declared.lists.NodeList.{NodeList}
 use Rattle.sot_workers.specs.Lists.{AreLists}
 use Rattle.sot_workers.specs.Asked.{EachAnswered, EachUnnamedStays}

@@ -7,8 +7,8 @@ use Rattle.sot_world.specs.Events.{slot_count}
 use Rattle.sot_world.specs.HistoryEntry.{Logged}
 use Rattle.sot_flight.specs.Plans.{Plan}
 use Rattle.sot_board.specs.Versions.{drafts_of}
-use Rattle.sot_node_worker.specs.Askings.{Asking}
-use Rattle.sot_node_worker.specs.Answers.{FitsFiring, HasAnswered}
+use Rattle.sot_fly_worker.specs.Askings.{Asking}
+use Rattle.sot_fly_worker.specs.Answers.{FitsFiring, HasAnswered}
 use Rattle.sot_workers.specs.declared.lists.NodeList.{NodeList}
 use Rattle.sot_workers.specs.Lists.{AreLists}
 

@@ -11,8 +11,8 @@ use Rattle.sot_world.specs.HistoryEntry.{Logged, FireAt}
 use Rattle.sot_flight.specs.Plans.{Plan, Guest}
 use Rattle.sot_board.specs.Flown.{Position, FlownSoFar, FlownBy}
 use Rattle.sot_board.specs.Versions.{drafts_of}
-use Rattle.sot_node_worker.specs.Askings.{Asking}
-use Rattle.sot_node_worker.specs.Answers.{FitsFiring}
+use Rattle.sot_fly_worker.specs.Askings.{Asking}
+use Rattle.sot_fly_worker.specs.Answers.{FitsFiring}
 use Rattle.sot_workers.specs.Asked.{EachAnswered}
 use Rattle.sot_law_guests.specs.Laws.{draft_given}
 

@@ -9,3 +9,10 @@ pub mod GoingOn
 pub mod Time
 pub mod Openings
 pub mod Firings
+pub mod Commands
+pub mod Landing
+pub mod Rows
+pub mod Between
+pub mod Stays
+pub mod Runs
+pub mod OneRank

@@ -1,7 +1,11 @@
--- what the laws say
+-- what the public contracts say
+pub mod RecoveryLaws
+-- between the crate's own functions
 pub mod GoingOn
 pub mod Openings
 pub mod Firings
 pub mod TubeBoxes
--- worked programs and configurations
 pub mod Examples
+pub mod Holds
+pub mod Ranks
+pub mod RunHolds

@@ -1,7 +1,7 @@
 -- The declarations of modules, one after another.
 use Rattle.std.proofs.Common.{◌≡◌, ℕ, suc, ◌+◌, ◌-◌, ◌<◌, ◌≤◌, List, [], ◌++◌, sym, ap, ◌∙◌, append_assoc, arith}
 use Rattle.std.proofs.lemmas.List.{append-nil}
-use Rattle.sot_generator_words.specs.Words.{word}
+use Rattle.sot_random_words.specs.Words.{word}
 use Rattle.sot_maker.specs.Offsets.{offsets_of}
 use Rattle.sot_maker.specs.Declarations.{mission_stream, declarations_text, declarations_from}
 

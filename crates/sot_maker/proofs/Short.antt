@@ -4,7 +4,7 @@ use Rattle.std.specs.Fmt.{decimal}
 use Rattle.std.proofs.lemmas.Fmt.{length-decimal-le}
 use Rattle.sot_maker.specs.declared.member.Member.{Member}
 use Rattle.sot_maker.specs.declared.member.Member.TheVariants.{Cells, Crew, Start, Sway}
-use Rattle.sot_generator_words.specs.Words.{word}
+use Rattle.sot_random_words.specs.Words.{word}
 use Rattle.sot_maker.specs.Offsets.{offsets_of}
 use Rattle.sot_maker.specs.Declarations.{topic_text, plant_text, fast_text, code_text, slow_front, slow_text, module_text, declarations_text, declarations_from}
 use Rattle.sot_maker.specs.Declarations.{mission_stream, program_text}

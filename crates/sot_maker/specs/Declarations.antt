@@ -2,7 +2,7 @@
 -- with i.
 use Rattle.std.specs.Prelude.{ℕ, zero, suc, List, [], ◌++◌, codes}
 use Rattle.std.specs.Fmt.{decimal}
-use Rattle.sot_generator_words.specs.Words.{word}
+use Rattle.sot_random_words.specs.Words.{word}
 use Rattle.sot_maker.specs.declared.offsets.Offsets.{Offsets}
 use Rattle.sot_maker.specs.Offsets.{offsets_of}
 

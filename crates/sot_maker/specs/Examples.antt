@@ -1,6 +1,6 @@
 -- Worked offsets, orders and missions, as statements that the functions of `facts` prove.
 use Rattle.std.specs.Prelude.{◌≡◌, ℕ, List, [], ◌∷◌, ◌++◌, codes}
-use Rattle.sot_generator_words.specs.Words.{word}
+use Rattle.sot_random_words.specs.Words.{word}
 use Rattle.sot_maker.specs.Declarations.{mission_stream}
 use Rattle.sot_maker.specs.Offsets.{offsets_of}
 use Rattle.sot_maker.specs.NameOrder.{by_name}

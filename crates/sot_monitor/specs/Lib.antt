@@ -1,7 +1,8 @@
--- when a formula holds
+-- between the crate's own functions
 pub mod Holding
--- what a monitor stands for
 pub mod Tracked
 pub mod Tracking
--- what is kept of a formula over moments
 pub mod Standing
+pub mod Moments
+pub mod Seen
+pub mod Laws

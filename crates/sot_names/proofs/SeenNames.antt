@@ -3,7 +3,7 @@ use Rattle.std.proofs.Common.{◌≡◌, ◌∙◌, ℕ, List, [], ◌∷◌, �
 use Rattle.std.specs.List.{list_any}
 use Rattle.std.specs.Str.{bytes_eq}
 use denote.Ref.{Bor}
-use Rattle.sot_tree.specs.declared.tree.Ident.{Ident}
+use Rattle.sot_syntax_tree.specs.declared.tree.Ident.{Ident}
 use Rattle.sot_names.specs.SeenNames.{seen_names, with_name}
 
 pub any_seen : (name : List ℕ) (keys : List (Bor (List ℕ)))

@@ -5,7 +5,7 @@ use Rattle.std.specs.List.{fold}
 use Rattle.std.specs.Hash.DefaultHasher as sip
 use Rattle.std.specs.declared.hash.DefaultHasher.{DefaultHasher}
 use Rattle.sot_names.specs.declared.hasher.NameHash.{NameHash}
-use Rattle.sot_tree.specs.declared.tree.Ident.{Ident}
+use Rattle.sot_syntax_tree.specs.declared.tree.Ident.{Ident}
 
 -- a hash of names, with one more and the byte that ends it
 abbrev pub with_hash_of : DefaultHasher → Ident → DefaultHasher

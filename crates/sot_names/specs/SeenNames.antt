@@ -3,7 +3,7 @@ use Rattle.std.specs.Prelude.{◌≡◌, ℕ, List, [], ◌∷◌, ◌++◌, map
 use Rattle.std.specs.List.{list_any}
 use Rattle.std.specs.Str.{bytes_eq}
 use denote.Ref.{Bor}
-use Rattle.sot_tree.specs.declared.tree.Ident.{Ident}
+use Rattle.sot_syntax_tree.specs.declared.tree.Ident.{Ident}
 use Rattle.sot_names.specs.Names.{is_among}
 
 abbrev pub seen_names : List (Bor (List ℕ)) → List (List ℕ)

@@ -11,7 +11,7 @@ ghost use Rattle.sot_names.specs.NameHashes.{with_bytes, finished};
 use crate::named::Named;
 use crate::set::FEW;
 use indexmap::{IndexMap, IndexSet};
-use sot_tree::Ident;
+use sot_syntax_tree::Ident;
 use std::hash::{BuildHasher, DefaultHasher, Hasher};
 
 // Puts the length of a name above the seven bytes that its last word may have.

@@ -1,10 +1,10 @@
 //! What has a name of its own in a list.
 ghost use Rattle.std.specs.Prelude.{◌≡◌};
-ghost use Rattle.sot_tree.specs.declared.tree.Ident.{Ident};
-ghost use Rattle.sot_tree.specs.TreeViews.{declaration_view};
+ghost use Rattle.sot_syntax_tree.specs.declared.tree.Ident.{Ident};
+ghost use Rattle.sot_syntax_tree.specs.TreeViews.{declaration_view};
 ghost use Rattle.sot_names.specs.Names.{are_same, declared_name};
 
-use sot_tree::{Decl, Field, Ident, LocalDecl, StateDecl};
+use sot_syntax_tree::{Decl, Field, Ident, LocalDecl, StateDecl};
 
 /// What has a name of its own in a list.
 pub trait Named {

@@ -5,14 +5,14 @@
 ghost use Rattle.std.specs.Prelude.{◌≡◌, List, [], ◌∷◌, ◌++◌, map, not, IfOk, OnOk, if◌then◌else◌};
 ghost use Rattle.std.specs.List.{list_any};
 ghost use Rattle.std.specs.Str.{bytes_eq};
-ghost use Rattle.sot_tree.specs.declared.tree.Ident.{Ident};
+ghost use Rattle.sot_syntax_tree.specs.declared.tree.Ident.{Ident};
 ghost use Rattle.sot_names.specs.NameSets.{keys_in};
 ghost use Rattle.sot_names.specs.SeenNames.{seen_names, HasNames};
 
 use crate::hasher::{NameHasher, NameKeys};
 use crate::named::Named;
 use indexmap::IndexSet;
-use sot_tree::Ident;
+use sot_syntax_tree::Ident;
 use std::alloc::{AllocError, Global};
 
 /// How many names of a list are looked at one by one.

@@ -1,11 +1,11 @@
 -- Parts of declarations that functions of their own read, as forms.
 use Rattle.std.proofs.Common.{List, [], ◌∷◌, codes, map, Option, None}
 use Rattle.sot_text.specs.Reading.{Lexeme}
-use Rattle.sot_tree.specs.declared.tree.Ident.{Ident}
-use Rattle.sot_tree.specs.declared.tree.Lit.{Lit}
-use Rattle.sot_tree.specs.declared.tree.Field.{Field}
-use Rattle.sot_tree.specs.declared.tree.StateDecl.{StateDecl}
-use Rattle.sot_tree.specs.Trees.{Block, Local, Node, Area}
+use Rattle.sot_syntax_tree.specs.declared.tree.Ident.{Ident}
+use Rattle.sot_syntax_tree.specs.declared.tree.Lit.{Lit}
+use Rattle.sot_syntax_tree.specs.declared.tree.Field.{Field}
+use Rattle.sot_syntax_tree.specs.declared.tree.StateDecl.{StateDecl}
+use Rattle.sot_syntax_tree.specs.Trees.{Block, Local, Node, Area}
 use Rattle.sot_parser.specs.Pieces.{Keyword, Sign, Named, name_of, number_of, each, maybe, FieldForm, spelled_field, field_of, ClauseForm, spelled_clause}
 use Rattle.sot_parser.specs.Pieces.{clause_of, clause_or_none, RoleForm, spelled_role, role_of, TimingForm, spelled_timing}
 use Rattle.sot_parser.specs.Statements.{BlockForm, spelled_block, block_of}

@@ -5,9 +5,9 @@ use Rattle.sot_text.specs.Reading.{Lexeme}
 use Rattle.sot_text.specs.declared.token.LexFault.{LexFault}
 use Rattle.sot_text.specs.Ahead.{Ahead, Comes, ahead_from}
 use Rattle.sot_text.proofs.Aheads.{ahead_comes, comes_unique}
-use Rattle.sot_tree.specs.declared.tree.Program.{Program as CodeProgram}
-use Rattle.sot_tree.specs.Trees.{Program, Declaration}
-use Rattle.sot_tree.specs.TreeViews.{program_view}
+use Rattle.sot_syntax_tree.specs.declared.tree.Program.{Program as CodeProgram}
+use Rattle.sot_syntax_tree.specs.Trees.{Program, Declaration}
+use Rattle.sot_syntax_tree.specs.TreeViews.{program_view}
 use Rattle.sot_parser.specs.declared.syntax.Syntax.{Syntax}
 use Rattle.sot_parser.specs.declared.syntax.ParseFail.{ParseFail}
 use Rattle.sot_parser.specs.declared.syntax.ParseFail.TheVariants as fails

@@ -3,13 +3,13 @@ use Rattle.std.proofs.Common.{ℕ, zero, suc, ◌<◌, ◌≤◌, ◌||◌, ◌=
 use Rattle.sot_text.specs.Reading.{Lexeme}
 use Rattle.sot_text.specs.Ahead.{Ahead}
 use Rattle.std.specs.Prelude.{IfOk}
-use Rattle.sot_tree.specs.declared.tree.Bounds.{Bounds}
-use Rattle.sot_tree.specs.declared.tree.Field.{Field}
-use Rattle.sot_tree.specs.declared.tree.Const.{Const}
-use Rattle.sot_tree.specs.declared.tree.StateDecl.{StateDecl}
+use Rattle.sot_syntax_tree.specs.declared.tree.Bounds.{Bounds}
+use Rattle.sot_syntax_tree.specs.declared.tree.Field.{Field}
+use Rattle.sot_syntax_tree.specs.declared.tree.Const.{Const}
+use Rattle.sot_syntax_tree.specs.declared.tree.StateDecl.{StateDecl}
 use Rattle.sot_expression.specs.declared.fail.Fail.{Fail}
 use Rattle.sot_expression.specs.Returned.{Gives}
-use Rattle.sot_tree.specs.Trees.{Tree, Statement, Block, no_statement}
+use Rattle.sot_syntax_tree.specs.Trees.{Tree, Statement, Block, no_statement}
 use Rattle.sot_expression.specs.Lexemes.{begins, is_sign, is_keyword, is_name, is_number, ident, literal}
 use Rattle.sot_expression.specs.Readers.{Read, ◌>>=◌, one_token, expect, name_at, number_at, literal_at}
 use Rattle.sot_parser.specs.ListReaders.{repeated, all_at, further_at, separated_at, clause_at, optional_at}

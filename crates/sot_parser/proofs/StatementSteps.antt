@@ -3,12 +3,12 @@ use Rattle.std.proofs.Common.{◌≡◌, ℕ, zero, suc, ◌-◌, ◌≤◌, con
 use Rattle.std.specs.Global.{Box, Vec}
 use Rattle.sot_text.specs.Reading.{Lexeme}
 use Rattle.sot_text.specs.declared.token.Span.{Span}
-use Rattle.sot_tree.specs.declared.tree.Lit.{Lit}
-use Rattle.sot_tree.specs.declared.tree.Branch.{Branch}
-use Rattle.sot_tree.specs.declared.tree.Stmt.{Stmt, If, Repeat}
-use Rattle.sot_tree.specs.Trees.{Tree, Statement, Block, statement}
-use Rattle.sot_tree.specs.TreeViews.{tree_view, statement_view, block_view}
-use Rattle.sot_tree.proofs.BlockRows.{branch_view, repeat_view}
+use Rattle.sot_syntax_tree.specs.declared.tree.Lit.{Lit}
+use Rattle.sot_syntax_tree.specs.declared.tree.Branch.{Branch}
+use Rattle.sot_syntax_tree.specs.declared.tree.Stmt.{Stmt, If, Repeat}
+use Rattle.sot_syntax_tree.specs.Trees.{Tree, Statement, Block, statement}
+use Rattle.sot_syntax_tree.specs.TreeViews.{tree_view, statement_view, block_view}
+use Rattle.sot_syntax_tree.proofs.BlockRows.{branch_view, repeat_view}
 use Rattle.sot_expression.specs.Lexemes.{is_sign, is_keyword}
 use Rattle.sot_expression.specs.Readers.{Read, stuck, deep, expect, number_at}
 use Rattle.sot_parser.specs.ListReaders.{all_at}

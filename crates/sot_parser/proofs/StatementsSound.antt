@@ -1,7 +1,7 @@
 -- Statements: what is read is of the grammar.
 use Rattle.std.proofs.Common.{◌≡◌, ℕ, zero, suc, ◌≤◌, ◌==◌, List, [], ◌∷◌, codes, map, Some, None, refl, sym, ap, ◌∙◌, arith}
 use Rattle.sot_text.specs.Reading.{Lexeme}
-use Rattle.sot_tree.specs.Trees.{Tree, Statement, Block, statement}
+use Rattle.sot_syntax_tree.specs.Trees.{Tree, Statement, Block, statement}
 use Rattle.sot_expression.specs.Lexemes.{begins, is_sign, is_keyword}
 use Rattle.sot_expression.specs.Readers.{Read}
 use Rattle.sot_parser.specs.Pieces.{each, maybe}

@@ -2,18 +2,18 @@
 use Rattle.std.specs.Prelude.{ℕ, List, [], ◌∷◌, Bool, true, false, ◌||◌, codes, Option, None, Some}
 use Rattle.std.specs.Prelude.{Ok, if◌then◌else◌}
 use Rattle.sot_text.specs.Reading.{Lexeme}
-use Rattle.sot_tree.specs.declared.tree.Ident.{Ident}
-use Rattle.sot_tree.specs.declared.tree.Lit.{Lit}
-use Rattle.sot_tree.specs.declared.tree.Bounds.{Bounds}
-use Rattle.sot_tree.specs.declared.tree.Scalar.{Scalar}
-use Rattle.sot_tree.specs.declared.tree.Scalar.TheVariants.{Int, Fix, Bool as Truths}
-use Rattle.sot_tree.specs.declared.tree.Field.{Field}
-use Rattle.sot_tree.specs.declared.tree.Const.{Const}
-use Rattle.sot_tree.specs.declared.tree.Const.TheVariants as consts
-use Rattle.sot_tree.specs.declared.tree.StateDecl.{StateDecl}
-use Rattle.sot_tree.specs.Trees.{Block, Form, one, fields, Start, one_value, values, Topic, Next}
-use Rattle.sot_tree.specs.Trees.{Local, Plant, Node, Area, Module, Declaration, a_topic, a_plant}
-use Rattle.sot_tree.specs.Trees.{a_node, a_module, Program}
+use Rattle.sot_syntax_tree.specs.declared.tree.Ident.{Ident}
+use Rattle.sot_syntax_tree.specs.declared.tree.Lit.{Lit}
+use Rattle.sot_syntax_tree.specs.declared.tree.Bounds.{Bounds}
+use Rattle.sot_syntax_tree.specs.declared.tree.Scalar.{Scalar}
+use Rattle.sot_syntax_tree.specs.declared.tree.Scalar.TheVariants.{Int, Fix, Bool as Truths}
+use Rattle.sot_syntax_tree.specs.declared.tree.Field.{Field}
+use Rattle.sot_syntax_tree.specs.declared.tree.Const.{Const}
+use Rattle.sot_syntax_tree.specs.declared.tree.Const.TheVariants as consts
+use Rattle.sot_syntax_tree.specs.declared.tree.StateDecl.{StateDecl}
+use Rattle.sot_syntax_tree.specs.Trees.{Block, Form, one, fields, Start, one_value, values, Topic, Next}
+use Rattle.sot_syntax_tree.specs.Trees.{Local, Plant, Node, Area, Module, Declaration, a_topic, a_plant}
+use Rattle.sot_syntax_tree.specs.Trees.{a_node, a_module, Program}
 use Rattle.sot_expression.specs.Lexemes.{begins, is_sign, is_keyword}
 use Rattle.sot_expression.specs.Readers.{Read, ◌>>=◌, expect, name_at, number_at, literal_at}
 use Rattle.sot_parser.specs.ListReaders.{all_at, separated_at, clause_at, optional_at}

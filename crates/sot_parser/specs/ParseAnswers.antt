@@ -4,9 +4,9 @@ use Rattle.std.specs.Prelude.{Result, Ok, Err}
 use Rattle.sot_text.specs.declared.token.LexFault.{LexFault}
 use Rattle.sot_text.specs.Reading.{span}
 use Rattle.sot_text.specs.Ahead.{Ahead, ahead_from}
-use Rattle.sot_tree.specs.declared.tree.Program.{Program as CodeProgram}
-use Rattle.sot_tree.specs.Trees.{Program}
-use Rattle.sot_tree.specs.TreeViews.{program_view}
+use Rattle.sot_syntax_tree.specs.declared.tree.Program.{Program as CodeProgram}
+use Rattle.sot_syntax_tree.specs.Trees.{Program}
+use Rattle.sot_syntax_tree.specs.TreeViews.{program_view}
 use Rattle.sot_parser.specs.declared.syntax.Syntax.{Syntax}
 use Rattle.sot_parser.specs.declared.syntax.Syntax.TheVariants.{Lex, Token, Deep}
 use Rattle.sot_parser.specs.declared.syntax.ParseFail.{ParseFail}

@@ -4,14 +4,14 @@
 use Rattle.std.specs.Prelude.{ℕ, List, [], ◌∷◌, true, false, codes, map, Option, None, Some}
 use Rattle.sot_text.specs.declared.token.Span.{Span}
 use Rattle.sot_text.specs.Reading.{Lexeme}
-use Rattle.sot_tree.specs.declared.tree.Ident.{Ident}
-use Rattle.sot_tree.specs.declared.tree.Lit.{Lit}
-use Rattle.sot_tree.specs.declared.tree.Bounds.{Bounds}
-use Rattle.sot_tree.specs.declared.tree.Scalar.{Scalar}
-use Rattle.sot_tree.specs.declared.tree.Scalar.TheVariants.{Int, Fix, Bool as Truths}
-use Rattle.sot_tree.specs.declared.tree.Field.{Field}
-use Rattle.sot_tree.specs.declared.tree.Const.{Const}
-use Rattle.sot_tree.specs.declared.tree.Const.TheVariants as consts
+use Rattle.sot_syntax_tree.specs.declared.tree.Ident.{Ident}
+use Rattle.sot_syntax_tree.specs.declared.tree.Lit.{Lit}
+use Rattle.sot_syntax_tree.specs.declared.tree.Bounds.{Bounds}
+use Rattle.sot_syntax_tree.specs.declared.tree.Scalar.{Scalar}
+use Rattle.sot_syntax_tree.specs.declared.tree.Scalar.TheVariants.{Int, Fix, Bool as Truths}
+use Rattle.sot_syntax_tree.specs.declared.tree.Field.{Field}
+use Rattle.sot_syntax_tree.specs.declared.tree.Const.{Const}
+use Rattle.sot_syntax_tree.specs.declared.tree.Const.TheVariants as consts
 use Rattle.sot_expression.specs.Lexemes.{IsKeyword, IsSign, IsName, IsNumber, ident, literal}
 use Rattle.sot_expression.specs.Lexemes.{negative_literal}
 

@@ -2,7 +2,7 @@
 use Rattle.std.specs.Prelude.{◌≡◌, ℕ, ◌≤◌, List, [], map, None}
 use Rattle.sot_text.specs.Reading.{Lexeme}
 use Rattle.sot_text.specs.Ahead.{Comes}
-use Rattle.sot_tree.specs.Trees.{Program}
+use Rattle.sot_syntax_tree.specs.Trees.{Program}
 use Rattle.sot_parser.specs.Pieces.{each}
 use Rattle.sot_parser.specs.Declarations.{DeclarationForm, spelled_declaration, declaration_of}
 use Rattle.sot_parser.specs.Declarations.{declaration_levels, most}

@@ -2,10 +2,10 @@
 use Rattle.std.specs.Prelude.{ℕ, zero, suc, List, [], ◌∷◌, Bool, not, ◌||◌, ◌==◌, codes, Option}
 use Rattle.std.specs.Prelude.{None, Some, Ok, Err, if◌then◌else◌}
 use Rattle.sot_text.specs.Reading.{Lexeme}
-use Rattle.sot_tree.specs.declared.tree.Ident.{Ident}
-use Rattle.sot_tree.specs.Trees.{Tree, Statement, Block, assigned, published, branched}
-use Rattle.sot_tree.specs.Trees.{no_statement, statement}
-use Rattle.sot_tree.specs.Trees as trees
+use Rattle.sot_syntax_tree.specs.declared.tree.Ident.{Ident}
+use Rattle.sot_syntax_tree.specs.Trees.{Tree, Statement, Block, assigned, published, branched}
+use Rattle.sot_syntax_tree.specs.Trees.{no_statement, statement}
+use Rattle.sot_syntax_tree.specs.Trees as trees
 use Rattle.sot_expression.specs.Lexemes.{begins, is_sign, is_keyword, is_name}
 use Rattle.sot_expression.specs.Readers.{Read, stuck, deep, ◌>>=◌, expect, name_at, number_at}
 use Rattle.sot_parser.specs.ListReaders.{all_at}

@@ -1,7 +1,7 @@
 //! Declarations, by the word that they begin with. A text may have very many topics, so the others
 //! stand apart.
 ghost use Rattle.std.specs.Prelude.{◌≡◌, ◌≤◌, ◌||◌, map, codes};
-ghost use Rattle.sot_tree.specs.TreeViews.{declaration_view};
+ghost use Rattle.sot_syntax_tree.specs.TreeViews.{declaration_view};
 ghost use Rattle.sot_expression.specs.Lexemes.{begins, is_keyword};
 ghost use Rattle.sot_parser.specs.DeclarationReaders.{a_topic_at, a_plant_at, a_coded_at};
 ghost use Rattle.sot_parser.specs.DeclarationReaders.{an_external_at, a_module_at, declaration_at};
@@ -13,7 +13,7 @@ use crate::plant::plant;
 use crate::regions::mission_module;
 use crate::topic::topic;
 use sot_expression::{Fail, Tokens, is_keyword};
-use sot_tree::{Apart, Decl};
+use sot_syntax_tree::{Apart, Decl};
 use std::alloc::Global;
 
 #[inline(always)]

@@ -3,19 +3,19 @@ ghost use Rattle.std.specs.Prelude.{◌≡◌};
 
 /// A part that is held over the next steps. Where one of them fails it is let go by one call, so
 /// that a function which holds some is proved without the variants of what they are.
-pub struct Held<T: Drop>(pub T);
+pub struct HeldPart<T: Drop>(pub T);
 
-impl<T: Drop> Drop for Held<T> {
+impl<T: Drop> Drop for HeldPart<T> {
     fn drop(self) {
-        let Held(_) = self;
+        let HeldPart(_) = self;
     }
 }
 
-impl<T: Drop> Held<T> {
+impl<T: Drop> HeldPart<T> {
     pub fn take(self) -> T
         ensures { result ≡ self.0 }
     {
-        let Held(part) = self;
+        let HeldPart(part) = self;
         part
     }
 }

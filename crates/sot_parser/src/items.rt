@@ -7,7 +7,7 @@ ghost use Rattle.sot_parser.specs.ListReaders.{further_at, separated_at, clause_
 ghost use Rattle.sot_expression.specs.Returned.{Gives};
 
 use sot_expression::{Fail, Tokens, expect_keyword, expect_sign, is_keyword, is_sign, name};
-use sot_tree::Ident;
+use sot_syntax_tree::Ident;
 use std::alloc::Global;
 
 /// What stands in lists.

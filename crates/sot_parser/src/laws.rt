@@ -1,6 +1,6 @@
 //! Theorems on what texts spell.
 ghost use Rattle.std.specs.Prelude.{◌≡◌};
-ghost use Rattle.sot_tree.specs.Trees.{Program};
+ghost use Rattle.sot_syntax_tree.specs.Trees.{Program};
 ghost use Rattle.sot_parser.specs.Programs.{Spells};
 
 /// A text spells at most one program.

@@ -1,18 +1,18 @@
 //! Nodes.
 ghost use Rattle.std.specs.Prelude.{◌≡◌, ◌≤◌, map, codes};
-ghost use Rattle.sot_tree.specs.TreeViews.{local_view, block_view, node_view};
+ghost use Rattle.sot_syntax_tree.specs.TreeViews.{local_view, block_view, node_view};
 ghost use Rattle.sot_expression.specs.Lexemes.{begins, is_keyword};
 ghost use Rattle.sot_parser.specs.ListReaders.{all_at};
 ghost use Rattle.sot_parser.specs.DeclarationReaders.{local_at, head_at, code_at, coded_at};
 ghost use Rattle.sot_parser.specs.DeclarationReaders.{external_at};
 ghost use Rattle.sot_expression.specs.Returned.{Gives};
 
-use crate::held::Held;
+use crate::held::HeldPart;
 use crate::items::optional;
 use crate::pieces::{constant, scalar, timing};
 use crate::statement::block;
 use sot_expression::{Fail, Tokens, expect_keyword, expect_sign, is_keyword, name};
-use sot_tree::{LocalDecl, NodeDecl, Stmt};
+use sot_syntax_tree::{LocalDecl, NodeDecl, Stmt};
 use std::alloc::Global;
 
 #[tactic(auto, unfolding(crate::specs::DeclarationReaders::local_at))]
@@ -20,7 +20,7 @@ fn local(alloc: Global, tokens: &mut Tokens<'_>) -> Result<LocalDecl, Fail>
     ensures { Gives local_view result tokens.old tokens.new (local_at tokens.old.tokens) }
 {
     expect_keyword(tokens, b"local")?;
-    let name = Held(name(alloc, tokens)?);
+    let name = HeldPart(name(alloc, tokens)?);
     expect_sign(tokens, b":")?;
     let scalar = scalar(tokens)?;
     expect_sign(tokens, b"=")?;
@@ -50,7 +50,7 @@ fn locals(alloc: Global, tokens: &mut Tokens<'_>) -> Result<Vec<LocalDecl>, Fail
 fn head(alloc: Global, tokens: &mut Tokens<'_>) -> Result<NodeDecl, Fail>
     ensures { Gives node_view result tokens.old tokens.new (head_at tokens.old.tokens) }
 {
-    let name = Held(name(alloc, tokens)?);
+    let name = HeldPart(name(alloc, tokens)?);
     let (period, offset) = timing(tokens)?;
     expect_sign(tokens, b"{")?;
     let reads = optional(alloc, tokens, b"reads")?;
@@ -90,7 +90,7 @@ pub fn coded(alloc: Global, tokens: &mut Tokens<'_>, room: u32) -> Result<NodeDe
     ensures { Gives node_view result tokens.old tokens.new (coded_at room tokens.old.tokens) }
 {
     expect_keyword(tokens, b"node")?;
-    let head = Held(head(alloc, tokens)?);
+    let head = HeldPart(head(alloc, tokens)?);
     let (locals, body) = code(alloc, tokens, room)?;
     expect_sign(tokens, b"}")?;
     let head = head.take();
@@ -111,7 +111,7 @@ pub fn external(alloc: Global, tokens: &mut Tokens<'_>) -> Result<NodeDecl, Fail
     ensures { Gives node_view result tokens.old tokens.new (external_at tokens.old.tokens) }
 {
     expect_keyword(tokens, b"external")?;
-    let node = Held(head(alloc, tokens)?);
+    let node = HeldPart(head(alloc, tokens)?);
     expect_sign(tokens, b"}")?;
     Ok(node.take())
 }

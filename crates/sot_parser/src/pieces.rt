@@ -9,12 +9,12 @@ ghost use Rattle.sot_parser.specs.DeclarationReaders.{const_at, whole_at, scaled
 ghost use Rattle.sot_parser.specs.DeclarationReaders.{state_at, timing_at, role_at};
 ghost use Rattle.sot_expression.specs.Returned.{Gives};
 
-use crate::held::Held;
+use crate::held::HeldPart;
 use crate::items::Item;
 use sot_expression::{
     Fail, Tokens, expect_keyword, expect_sign, is_keyword, literal, name, number,
 };
-use sot_tree::{Bounds, Const, Field, Ident, Lit, Scalar, StateDecl};
+use sot_syntax_tree::{Bounds, Const, Field, Ident, Lit, Scalar, StateDecl};
 use std::alloc::Global;
 
 #[tactic(auto, unfolding(crate::specs::DeclarationReaders::side_at))]
@@ -108,7 +108,7 @@ fn named_scalar(alloc: Global, tokens: &mut Tokens<'_>) -> Result<Field, Fail>
     ensures { Gives (λ field. field) result tokens.old tokens.new
         (named_scalar_at tokens.old.tokens) }
 {
-    let name = Held(name(alloc, tokens)?);
+    let name = HeldPart(name(alloc, tokens)?);
     expect_sign(tokens, b":")?;
     let scalar = scalar(tokens)?;
     Ok(Field {
@@ -200,7 +200,7 @@ fn scale(tokens: &mut Tokens<'_>) -> Result<Option<Lit>, Fail>
 fn state(alloc: Global, tokens: &mut Tokens<'_>) -> Result<StateDecl, Fail>
     ensures { Gives (λ state. state) result tokens.old tokens.new (state_at tokens.old.tokens) }
 {
-    let name = Held(name(alloc, tokens)?);
+    let name = HeldPart(name(alloc, tokens)?);
     expect_sign(tokens, b":")?;
     let scale = scale(tokens)?;
     Ok(StateDecl {
@@ -237,7 +237,7 @@ pub fn role(alloc: Global, tokens: &mut Tokens<'_>, word: &[u8]) -> Result<Ident
         (role_at word.now tokens.old.tokens) }
 {
     expect_keyword(tokens, word)?;
-    let name = Held(name(alloc, tokens)?);
+    let name = HeldPart(name(alloc, tokens)?);
     expect_sign(tokens, b";")?;
     Ok(name.take())
 }

@@ -1,16 +1,16 @@
 //! Statements with none inside.
 ghost use Rattle.std.specs.Prelude.{◌≡◌, ◌≤◌, codes};
-ghost use Rattle.sot_tree.specs.Trees.{published};
-ghost use Rattle.sot_tree.specs.TreeViews.{tree_view, statement_view};
+ghost use Rattle.sot_syntax_tree.specs.Trees.{published};
+ghost use Rattle.sot_syntax_tree.specs.TreeViews.{tree_view, statement_view};
 ghost use Rattle.sot_expression.specs.Lexemes.{begins, is_sign, is_keyword};
 ghost use Rattle.sot_expression.specs.ExpressionReaders.{tree_at};
 ghost use Rattle.sot_parser.specs.StatementReaders.{assign_at, field_at, dot_at, publish_at};
 ghost use Rattle.sot_parser.specs.StatementReaders.{plain_at};
 ghost use Rattle.sot_expression.specs.Returned.{Gives, Makes};
 
-use crate::held::Held;
+use crate::held::HeldPart;
 use sot_expression::{Fail, Tokens, expect_keyword, expect_sign, is_keyword, is_sign, name, tree};
-use sot_tree::{Apart, Expr, Ident, Member, Stmt};
+use sot_syntax_tree::{Apart, Expr, Ident, Member, Stmt};
 use std::alloc::Global;
 
 #[tactic(auto, unfolding(crate::specs::StatementReaders::assign_at))]
@@ -19,9 +19,9 @@ fn assign(alloc: Global, tokens: &mut Tokens<'_>, room: u32) -> Result<Stmt, Fai
     ensures { Gives statement_view result tokens.old tokens.new
         (assign_at (tree_at room) tokens.old.tokens) }
 {
-    let target = Held(name(alloc, tokens)?);
+    let target = HeldPart(name(alloc, tokens)?);
     expect_sign(tokens, b":=")?;
-    let value = Held(tree(alloc, tokens, room)?);
+    let value = HeldPart(tree(alloc, tokens, room)?);
     expect_sign(tokens, b";")?;
     Ok(Stmt::Assign {
         target: target.take(),
@@ -70,10 +70,10 @@ fn publish(alloc: Global, tokens: &mut Tokens<'_>, room: u32) -> Result<Stmt, Fa
         (publish_at (tree_at room) tokens.old.tokens) }
 {
     expect_keyword(tokens, b"publish")?;
-    let topic = Held(name(alloc, tokens)?);
-    let field = Held(optional_field(alloc, tokens)?);
+    let topic = HeldPart(name(alloc, tokens)?);
+    let field = HeldPart(optional_field(alloc, tokens)?);
     expect_sign(tokens, b"=")?;
-    let value = Held(tree(alloc, tokens, room)?);
+    let value = HeldPart(tree(alloc, tokens, room)?);
     expect_sign(tokens, b";")?;
     let statement = published(alloc, topic.take(), field.take(), value.take())?;
     Ok(statement)

@@ -1,6 +1,6 @@
 //! Plants.
 ghost use Rattle.std.specs.Prelude.{◌≡◌, ◌≤◌, map, codes};
-ghost use Rattle.sot_tree.specs.TreeViews.{tree_view, next_view, plant_view};
+ghost use Rattle.sot_syntax_tree.specs.TreeViews.{tree_view, next_view, plant_view};
 ghost use Rattle.sot_expression.specs.Lexemes.{begins, is_keyword};
 ghost use Rattle.sot_expression.specs.Readers.{name_at};
 ghost use Rattle.sot_parser.specs.ListReaders.{all_at};
@@ -8,10 +8,10 @@ ghost use Rattle.sot_expression.specs.ExpressionReaders.{tree_at};
 ghost use Rattle.sot_parser.specs.DeclarationReaders.{next_at, signals_at, plant_at};
 ghost use Rattle.sot_expression.specs.Returned.{Gives};
 
-use crate::held::Held;
+use crate::held::HeldPart;
 use crate::items::{clause, optional};
 use sot_expression::{Fail, Tokens, expect_keyword, expect_sign, is_keyword, name, tree};
-use sot_tree::{Field, Ident, NextDecl, PlantDecl, StateDecl};
+use sot_syntax_tree::{Field, Ident, NextDecl, PlantDecl, StateDecl};
 use std::alloc::Global;
 
 #[tactic(auto, unfolding(crate::specs::DeclarationReaders::next_at))]
@@ -20,9 +20,9 @@ fn next(alloc: Global, tokens: &mut Tokens<'_>, room: u32) -> Result<NextDecl, F
     ensures { Gives next_view result tokens.old tokens.new (next_at room tokens.old.tokens) }
 {
     expect_keyword(tokens, b"next")?;
-    let name = Held(name(alloc, tokens)?);
+    let name = HeldPart(name(alloc, tokens)?);
     expect_sign(tokens, b"=")?;
-    let value = Held(tree(alloc, tokens, room)?);
+    let value = HeldPart(tree(alloc, tokens, room)?);
     expect_sign(tokens, b";")?;
     Ok(NextDecl {
         name: name.take(),
@@ -69,7 +69,7 @@ pub fn plant(alloc: Global, tokens: &mut Tokens<'_>, room: u32) -> Result<PlantD
     ensures { Gives plant_view result tokens.old tokens.new (plant_at room tokens.old.tokens) }
 {
     expect_keyword(tokens, b"plant")?;
-    let name = Held(name(alloc, tokens)?);
+    let name = HeldPart(name(alloc, tokens)?);
     expect_sign(tokens, b"{")?;
     let (states, inputs, sees, noise) = signals(alloc, tokens)?;
     let next = nexts(alloc, tokens, room)?;

@@ -1,8 +1,8 @@
 //! A whole program: its tree, or where it goes wrong.
 ghost use Rattle.std.specs.Prelude.{◌≡◌, IfOk, IsErrOf};
 ghost use Rattle.sot_text.specs.Ahead.{ahead_from};
-ghost use Rattle.sot_tree.specs.Trees.{Program as ProgramTree};
-ghost use Rattle.sot_tree.specs.TreeViews.{program_view};
+ghost use Rattle.sot_syntax_tree.specs.Trees.{Program as ProgramTree};
+ghost use Rattle.sot_syntax_tree.specs.TreeViews.{program_view};
 ghost use Rattle.sot_parser.specs.Programs.{Spells};
 ghost use Rattle.sot_parser.specs.DeclarationReaders.{program_at};
 ghost use Rattle.sot_parser.specs.ParseAnswers.{stuck_syntax, deep_syntax, is_ended, fault_at};
@@ -12,8 +12,8 @@ ghost use Rattle.sot_expression.specs.Returned.{Gives};
 use crate::declaration::declarations;
 use crate::syntax::{ParseFail, Syntax};
 use sot_expression::{Fail, Tokens};
+use sot_syntax_tree::Program;
 use sot_text::Lexer;
-use sot_tree::Program;
 use std::alloc::Global;
 
 const ROOM: u32 = 64;

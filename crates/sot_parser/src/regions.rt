@@ -1,17 +1,17 @@
 //! Modules and their regions.
 ghost use Rattle.std.specs.Prelude.{◌≡◌, map, codes};
-ghost use Rattle.sot_tree.specs.TreeViews.{area_view, module_view};
+ghost use Rattle.sot_syntax_tree.specs.TreeViews.{area_view, module_view};
 ghost use Rattle.sot_expression.specs.Lexemes.{begins, is_sign, is_keyword};
 ghost use Rattle.sot_parser.specs.ListReaders.{further_at, separated_at};
 ghost use Rattle.sot_parser.specs.DeclarationReaders.{box_at, no_box_at, region_at, bound_at};
 ghost use Rattle.sot_parser.specs.DeclarationReaders.{pairing_at, bounds_at, module_at};
 ghost use Rattle.sot_expression.specs.Returned.{Gives};
 
-use crate::held::Held;
+use crate::held::HeldPart;
 use crate::items::separated;
 use crate::pieces::{role, timing};
 use sot_expression::{Fail, Tokens, expect_keyword, expect_sign, is_keyword, is_sign, name};
-use sot_tree::{BoxDecl, Ident, Lit, ModuleDecl};
+use sot_syntax_tree::{BoxDecl, Ident, Lit, ModuleDecl};
 use std::alloc::Global;
 
 #[tactic(auto, unfolding(crate::specs::DeclarationReaders::box_at))]
@@ -85,8 +85,8 @@ fn pairing(alloc: Global, tokens: &mut Tokens<'_>) -> Result<(Ident, Ident, Lit,
     ensures { Gives (λ pairing. pairing) result tokens.old tokens.new
         (pairing_at tokens.old.tokens) }
 {
-    let ac = Held(role(alloc, tokens, b"ac")?);
-    let sc = Held(role(alloc, tokens, b"sc")?);
+    let ac = HeldPart(role(alloc, tokens, b"ac")?);
+    let sc = HeldPart(role(alloc, tokens, b"sc")?);
     let (period, offset) = timing(tokens)?;
     expect_sign(tokens, b";")?;
     let plant = role(alloc, tokens, b"plant")?;
@@ -110,9 +110,9 @@ pub fn mission_module(alloc: Global, tokens: &mut Tokens<'_>) -> Result<ModuleDe
     ensures { Gives module_view result tokens.old tokens.new (module_at tokens.old.tokens) }
 {
     expect_keyword(tokens, b"module")?;
-    let name = Held(name(alloc, tokens)?);
+    let name = HeldPart(name(alloc, tokens)?);
     expect_sign(tokens, b"{")?;
-    let pairing = Held(pairing(alloc, tokens)?);
+    let pairing = HeldPart(pairing(alloc, tokens)?);
     let (safe, safer) = bounds(alloc, tokens)?;
     expect_sign(tokens, b"}")?;
     let (ac, sc, period, offset, plant) = pairing.take();

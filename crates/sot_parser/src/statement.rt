@@ -1,6 +1,6 @@
 //! Statements and blocks.
 ghost use Rattle.std.specs.Prelude.{◌≡◌, ◌≤◌, map, codes};
-ghost use Rattle.sot_tree.specs.TreeViews.{statement_view, block_view};
+ghost use Rattle.sot_syntax_tree.specs.TreeViews.{statement_view, block_view};
 ghost use Rattle.sot_expression.specs.Lexemes.{begins, is_sign, is_keyword};
 ghost use Rattle.sot_parser.specs.ListReaders.{all_at};
 ghost use Rattle.sot_expression.specs.ExpressionReaders.{tree_at};
@@ -10,12 +10,12 @@ ghost use Rattle.sot_parser.specs.StatementReaders.{begins_statement, goes_on, b
 ghost use Rattle.sot_parser.specs.StatementReaders.{statement_at};
 ghost use Rattle.sot_expression.specs.Returned.{Gives};
 
-use crate::held::Held;
+use crate::held::HeldPart;
 use crate::plain::plain;
 use sot_expression::{
     Fail, Tokens, expect_keyword, expect_sign, is_keyword, is_name, is_sign, number, tree,
 };
-use sot_tree::{Branch, Stmt};
+use sot_syntax_tree::{Branch, Stmt};
 use std::alloc::Global;
 
 fn is_nested(tokens: &Tokens<'_>) -> bool
@@ -92,7 +92,7 @@ fn branch(alloc: Global, tokens: &mut Tokens<'_>, room: u32) -> Result<Stmt, Fai
         (branch_at (tree_at room) (block_at (statement_at room)) tokens.old.tokens) }
 {
     let at = expect_keyword(tokens, b"if")?;
-    let cond = Held(tree(alloc, tokens, room)?);
+    let cond = HeldPart(tree(alloc, tokens, room)?);
     let yes = block(alloc, tokens, room)?;
     let no = optional_else(alloc, tokens, room)?;
     let cond = cond.take();

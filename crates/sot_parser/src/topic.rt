@@ -1,17 +1,17 @@
 //! Topics. Each call that hands a part on copies it, so what most topics have is read inline.
 ghost use Rattle.std.specs.Prelude.{◌≡◌, codes};
-ghost use Rattle.sot_tree.specs.TreeViews.{shape_view, init_view, topic_view};
+ghost use Rattle.sot_syntax_tree.specs.TreeViews.{shape_view, init_view, topic_view};
 ghost use Rattle.sot_expression.specs.Lexemes.{begins, is_sign, is_keyword};
 ghost use Rattle.sot_parser.specs.DeclarationReaders.{fields_at, one_scalar_at, shape_at};
 ghost use Rattle.sot_parser.specs.DeclarationReaders.{consts_at, one_const_at, init_at};
 ghost use Rattle.sot_parser.specs.DeclarationReaders.{environment_at, outside_at, topic_at};
 ghost use Rattle.sot_expression.specs.Returned.{Gives};
 
-use crate::held::Held;
+use crate::held::HeldPart;
 use crate::items::separated;
 use crate::pieces::{constant, scalar};
 use sot_expression::{Fail, Tokens, expect_keyword, expect_sign, is_keyword, is_sign, name};
-use sot_tree::{Init, Shape, TopicDecl};
+use sot_syntax_tree::{Init, Shape, TopicDecl};
 use std::alloc::Global;
 
 #[inline(never)]
@@ -107,11 +107,11 @@ pub fn topic(alloc: Global, tokens: &mut Tokens<'_>) -> Result<TopicDecl, Fail>
 {
     let outside = outside(tokens)?;
     expect_keyword(tokens, b"topic")?;
-    let name = Held(name(alloc, tokens)?);
+    let name = HeldPart(name(alloc, tokens)?);
     expect_sign(tokens, b":")?;
-    let shape = Held(shape(alloc, tokens)?);
+    let shape = HeldPart(shape(alloc, tokens)?);
     expect_sign(tokens, b"=")?;
-    let init = Held(init(alloc, tokens)?);
+    let init = HeldPart(init(alloc, tokens)?);
     expect_sign(tokens, b";")?;
     Ok(TopicDecl {
         outside,

@@ -1,7 +1,7 @@
 -- The bytes of a plant, and of a text that has some declaration.
 use Rattle.std.proofs.Common.{◌≡◌, ℕ, ◌<◌, ◌==◌, Bool, true, false, Option, None, Some, List, [], ◌∷◌, ◌++◌, length, map, length-append, refl, ap, ◌∙◌}
 use Rattle.std.proofs.Common.{append_assoc, codes, arith}
-use Rattle.sot_tree.specs.Trees.{Plant, Node, Block, Declaration, a_topic, a_plant, a_node, a_module}
+use Rattle.sot_syntax_tree.specs.Trees.{Plant, Node, Block, Declaration, a_topic, a_plant, a_node, a_module}
 use Rattle.sot_print.specs.declared.gap.Gap.{Gap}
 use Rattle.sot_print.specs.declared.gap.Gap.TheVariants.{Space}
 use Rattle.sot_print.specs.Words.{Word, keyword, sign, laid, text_of}

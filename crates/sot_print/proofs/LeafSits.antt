@@ -11,20 +11,20 @@ use Rattle.sot_text.specs.Lexeme.{begins_word, decimals_of, mantissa_of, number_
 use Rattle.sot_text.specs.Inside.{is_long_sign, sign_by_two}
 use Rattle.sot_text.proofs.Signs.{by_two}
 use Rattle.sot_text.proofs.Fronts.{front_number, front_sign}
-use Rattle.sot_tree.specs.declared.tree.Ident.{Ident}
-use Rattle.sot_tree.specs.declared.tree.Lit.{Lit}
-use Rattle.sot_tree.specs.declared.tree.Bounds.{Bounds}
-use Rattle.sot_tree.specs.declared.tree.Scalar.{Scalar}
-use Rattle.sot_tree.specs.declared.tree.Scalar.TheVariants.{Int, Fix, Bool as Truths}
-use Rattle.sot_tree.specs.declared.tree.Field.{Field}
-use Rattle.sot_tree.specs.declared.tree.Const.{Const}
-use Rattle.sot_tree.specs.declared.tree.Const.TheVariants.{Number as Numeral, Truth}
+use Rattle.sot_syntax_tree.specs.declared.tree.Ident.{Ident}
+use Rattle.sot_syntax_tree.specs.declared.tree.Lit.{Lit}
+use Rattle.sot_syntax_tree.specs.declared.tree.Bounds.{Bounds}
+use Rattle.sot_syntax_tree.specs.declared.tree.Scalar.{Scalar}
+use Rattle.sot_syntax_tree.specs.declared.tree.Scalar.TheVariants.{Int, Fix, Bool as Truths}
+use Rattle.sot_syntax_tree.specs.declared.tree.Field.{Field}
+use Rattle.sot_syntax_tree.specs.declared.tree.Const.{Const}
+use Rattle.sot_syntax_tree.specs.declared.tree.Const.TheVariants.{Number as Numeral, Truth}
 use Rattle.sot_print.specs.declared.gap.Gap.{Gap}
 use Rattle.sot_print.specs.declared.gap.Gap.TheVariants.{Touching, Space}
 use Rattle.sot_print.specs.Words.{Word, keyword, sign as a_sign, name, number}
 use Rattle.sot_print.specs.Leaves.{numeral, literal_words, ident_words, reference_words, truth_words, constant_words, items_from, listed, bounds_words}
 use Rattle.sot_print.specs.Leaves.{range_words, fixed_words, scalar_words, field_words}
-use Rattle.sot_tree.specs.Formed.{Each, IsName, IsLiteral, IfThere, AreBounds, IsScalar, IsField, IsConst}
+use Rattle.sot_syntax_tree.specs.Formed.{Each, IsName, IsLiteral, IfThere, AreBounds, IsScalar, IsField, IsConst}
 use Rattle.sot_print.proofs.NumeralTexts.{numeral_read, numeral_token}
 use Rattle.sot_print.proofs.Ends.{front_goes, word_goes}
 use Rattle.sot_print.proofs.Sits.{IsTok, Sits, SitsAnywhere, Enters, spaced, ended, then_word, joined, choice, sign_token, closes, opens, round_ends}

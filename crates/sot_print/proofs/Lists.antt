@@ -2,12 +2,12 @@
 use Rattle.std.proofs.Common.{◌≡◌, ℕ, ◌+◌, ◌<◌, ◌==◌, Bool, true, false, cond, List, [], ◌∷◌, ◌++◌, length, get_or, drop, drop-cons, add-one, codes, refl, sym}
 use Rattle.std.proofs.Common.{ap, ap₂, ◌∙◌, append_assoc, arith}
 use Rattle.std.proofs.lemmas.Bool.Decides.{nat_tests}
-use Rattle.sot_tree.specs.declared.tree.Expr.{Expr, Call}
+use Rattle.sot_syntax_tree.specs.declared.tree.Expr.{Expr, Call}
 use Rattle.sot_text.specs.declared.token.Span.{Span}
-use Rattle.sot_tree.specs.declared.operator.Func.{Func}
+use Rattle.sot_syntax_tree.specs.declared.operator.Func.{Func}
 use Rattle.std.specs.Global.{Box, Vec}
-use Rattle.sot_tree.proofs.CallRows.{call_view}
-use Rattle.sot_tree.specs.TreeViews.{tree_view, parts_view}
+use Rattle.sot_syntax_tree.proofs.CallRows.{call_view}
+use Rattle.sot_syntax_tree.specs.TreeViews.{tree_view, parts_view}
 use Rattle.sot_print.specs.declared.gap.Gap.{Gap}
 use Rattle.sot_print.specs.declared.gap.Gap.TheVariants.{Touching, Space}
 use Rattle.sot_print.specs.Words.{Word, sign, blanks, laid}

@@ -2,12 +2,12 @@
 use Rattle.std.proofs.Common.{ℕ, Bool, true, false, Option, None, Some, List, [], ◌∷◌, ◌++◌, append-nil, codes, refl, subst}
 use Rattle.sot_text.specs.declared.token.Kind.TheVariants.{Name, Keyword}
 use Rattle.sot_text.specs.Lexeme.{IsTokenText}
-use Rattle.sot_tree.specs.declared.tree.Ident.{Ident}
-use Rattle.sot_tree.specs.declared.tree.Lit.{Lit}
-use Rattle.sot_tree.specs.declared.tree.Field.{Field}
-use Rattle.sot_tree.specs.declared.tree.StateDecl.{StateDecl}
-use Rattle.sot_tree.specs.Trees.{Block, Form, one, fields, Start, one_value, values, Topic, Next, Local, Plant, Node, Area, Module, Declaration, a_topic}
-use Rattle.sot_tree.specs.Trees.{a_plant, a_node, a_module, Program}
+use Rattle.sot_syntax_tree.specs.declared.tree.Ident.{Ident}
+use Rattle.sot_syntax_tree.specs.declared.tree.Lit.{Lit}
+use Rattle.sot_syntax_tree.specs.declared.tree.Field.{Field}
+use Rattle.sot_syntax_tree.specs.declared.tree.StateDecl.{StateDecl}
+use Rattle.sot_syntax_tree.specs.Trees.{Block, Form, one, fields, Start, one_value, values, Topic, Next, Local, Plant, Node, Area, Module, Declaration, a_topic}
+use Rattle.sot_syntax_tree.specs.Trees.{a_plant, a_node, a_module, Program}
 use Rattle.sot_print.specs.declared.gap.Gap.{Gap}
 use Rattle.sot_print.specs.declared.gap.Gap.TheVariants.{Touching, Space, Line}
 use Rattle.sot_print.specs.Words.{Word, keyword, sign, name}
@@ -19,8 +19,8 @@ use Rattle.sot_print.specs.Canonical.{noise_clause, next_clause, each, plant_cla
 use Rattle.sot_print.specs.Canonical.{node_head_words, node_clauses, do_clause, node_of, area_words, bar, areas_from, region_words, control_clauses}
 use Rattle.sot_print.specs.Canonical.{region_clauses, module_words, declaration_words, declarations_from, words, canonical}
 use Rattle.sot_print.specs.Layout.{Reads}
-use Rattle.sot_tree.specs.Formed.{Each, IsName, IsLiteral, IsNumber, IfThere, AreBounds, IsField, IsConst, IsBlock, IsForm, IsStart, IsTopic, IsState, IsNext}
-use Rattle.sot_tree.specs.Formed.{IsPlant, IsLocal, IsNode, IsArea, IsModule, IsDeclaration, IsFormed}
+use Rattle.sot_syntax_tree.specs.Formed.{Each, IsName, IsLiteral, IsNumber, IfThere, AreBounds, IsField, IsConst, IsBlock, IsForm, IsStart, IsTopic, IsState, IsNext}
+use Rattle.sot_syntax_tree.specs.Formed.{IsPlant, IsLocal, IsNode, IsArea, IsModule, IsDeclaration, IsFormed}
 use Rattle.sot_print.proofs.Sits.{IsTok, Follows, Sits, SitsAnywhere, Enters, spaced, lined, ended, then_word, joined, choice, sign_token, closes, opens}
 use Rattle.sot_print.proofs.Sits.{round_ends, square_ends, brace_ends, follows_parted}
 use Rattle.sot_print.proofs.LeafSits.{literal_sits, ident_sits, constant_sits, listed_sits, bounds_sits, fixed_sits, scalar_sits, field_sits}

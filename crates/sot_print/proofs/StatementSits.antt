@@ -1,12 +1,12 @@
 -- The words of statements are tokens that may follow one another.
 use Rattle.std.proofs.Common.{ℕ, ◌+◌, List, [], ◌∷◌, ◌++◌, codes, refl}
-use Rattle.sot_tree.specs.Trees.{Statement, Block, assigned, published, branched, repeated, no_statement, statement}
+use Rattle.sot_syntax_tree.specs.Trees.{Statement, Block, assigned, published, branched, repeated, no_statement, statement}
 use Rattle.sot_print.specs.declared.gap.Gap.TheVariants.{Touching, Space, Line}
 use Rattle.sot_print.specs.Words.{Word, keyword, sign, name}
 use Rattle.sot_print.specs.Leaves.{literal_words, reference_words}
 use Rattle.sot_print.specs.Expressions.{expression_words}
 use Rattle.sot_print.specs.Statements.{semicolon, braced_words, otherwise_words, statement_words, block_words}
-use Rattle.sot_tree.specs.Formed.{IsStatement, IsBlock}
+use Rattle.sot_syntax_tree.specs.Formed.{IsStatement, IsBlock}
 use Rattle.sot_print.proofs.Sits.{IsTok, SitsAnywhere, spaced, ended, then_word, joined, sign_token, closes}
 use Rattle.sot_print.proofs.LeafSits.{literal_sits, reference_sits}
 use Rattle.sot_print.proofs.ExpressionSits.{expression_sits}

@@ -1,7 +1,7 @@
 -- The words of statements. Each begins a line, with so many spaces before it.
 use Rattle.std.specs.Prelude.{ℕ, ◌+◌, List, [], ◌∷◌, ◌++◌, codes}
-use Rattle.sot_tree.specs.Trees.{Statement, Block, assigned, published, branched, repeated}
-use Rattle.sot_tree.specs.Trees.{no_statement, statement as further_statement}
+use Rattle.sot_syntax_tree.specs.Trees.{Statement, Block, assigned, published, branched, repeated}
+use Rattle.sot_syntax_tree.specs.Trees.{no_statement, statement as further_statement}
 use Rattle.sot_print.specs.declared.gap.Gap.TheVariants.{Touching, Space, Line}
 use Rattle.sot_print.specs.Words.{Word, keyword, sign, name}
 use Rattle.sot_print.specs.Leaves.{literal_words, reference_words}

@@ -1,7 +1,7 @@
 //! Clauses of declarations.
 ghost use Rattle.std.specs.Prelude.{◌≡◌, ◌∷◌, ◌++◌, [], codes, OnOk};
 ghost use Rattle.std.specs.String.{string_bytes};
-ghost use Rattle.sot_tree.specs.TreeViews.{tree_view, next_view, local_view, shape_view, init_view};
+ghost use Rattle.sot_syntax_tree.specs.TreeViews.{tree_view, next_view, local_view, shape_view, init_view};
 ghost use Rattle.sot_print.specs.declared.gap.Gap.TheVariants.{Touching, Space, Line};
 ghost use Rattle.sot_print.specs.Words.{laid, keyword};
 ghost use Rattle.sot_print.specs.Leaves.{listed, ident_words, constant_words, bounds_words};
@@ -16,7 +16,9 @@ use crate::leaf::{
     push_bounds, push_constant, push_field, push_fixed, push_ident, push_literal, push_scalar,
 };
 use crate::statement::push_semicolon;
-use sot_tree::{Bounds, Const, Field, Ident, Init, Lit, LocalDecl, NextDecl, Shape, StateDecl};
+use sot_syntax_tree::{
+    Bounds, Const, Field, Ident, Init, Lit, LocalDecl, NextDecl, Shape, StateDecl,
+};
 use std::alloc::AllocError;
 
 /// Names, with commas.

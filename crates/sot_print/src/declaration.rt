@@ -1,9 +1,9 @@
 //! Declarations.
 ghost use Rattle.std.specs.Prelude.{◌≡◌, ◌∷◌, ◌==◌, ◌++◌, true, map, OnOk};
 ghost use Rattle.std.specs.String.{string_bytes};
-ghost use Rattle.sot_tree.specs.TreeViews.{topic_view, next_view, plant_view, local_view};
-ghost use Rattle.sot_tree.specs.TreeViews.{node_view, area_view, module_view, declaration_view};
-ghost use Rattle.sot_tree.specs.TreeViews.{block_view};
+ghost use Rattle.sot_syntax_tree.specs.TreeViews.{topic_view, next_view, plant_view, local_view};
+ghost use Rattle.sot_syntax_tree.specs.TreeViews.{node_view, area_view, module_view, declaration_view};
+ghost use Rattle.sot_syntax_tree.specs.TreeViews.{block_view};
 ghost use Rattle.sot_print.specs.declared.gap.Gap.TheVariants.{Space};
 ghost use Rattle.sot_print.specs.Words.{laid, keyword};
 ghost use Rattle.sot_print.specs.Leaves.{ident_words};
@@ -21,7 +21,7 @@ use crate::clause::{
 use crate::gap::{Gap, push_word};
 use crate::leaf::push_ident;
 use crate::statement::{push_block, push_semicolon};
-use sot_tree::{
+use sot_syntax_tree::{
     BoxDecl, Decl, Ident, LocalDecl, ModuleDecl, NextDecl, NodeDecl, PlantDecl, Stmt, TopicDecl,
 };
 use std::alloc::AllocError;

@@ -1,7 +1,7 @@
 //! Expressions, with parentheses round their operands.
 ghost use Rattle.std.specs.Prelude.{◌≡◌, ◌++◌, ◌∷◌, [], not, if◌then◌else◌, codes, OnOk};
 ghost use Rattle.std.specs.String.{string_bytes};
-ghost use Rattle.sot_tree.specs.TreeViews.{tree_view};
+ghost use Rattle.sot_syntax_tree.specs.TreeViews.{tree_view};
 ghost use Rattle.sot_print.specs.Words.{blanks, laid, keyword, sign};
 ghost use Rattle.sot_print.specs.Expressions.{operator, function_name, is_plain, grouped_words};
 ghost use Rattle.sot_print.specs.Expressions.{operand_words, expression_words};
@@ -10,7 +10,7 @@ ghost use Rattle.sot_print.specs.declared.gap.Gap.TheVariants.{Touching, Space};
 
 use crate::gap::{Gap, push_comma, push_word};
 use crate::leaf::{push_ident, push_literal, push_member, push_truth};
-use sot_tree::{Expr, Func, Lit, Op};
+use sot_syntax_tree::{Expr, Func, Lit, Op};
 use std::alloc::AllocError;
 
 fn operator_text(op: Op) -> &'static str

@@ -1,10 +1,10 @@
 //! Theorems on reading words back.
 ghost use Rattle.std.specs.Prelude.{List};
-ghost use Rattle.sot_tree.specs.Trees.{Program};
+ghost use Rattle.sot_syntax_tree.specs.Trees.{Program};
 ghost use Rattle.sot_print.specs.Words.{Word, text_of};
 ghost use Rattle.sot_print.specs.Canonical.{words, canonical};
 ghost use Rattle.sot_print.specs.Layout.{AreTokens, AreParted, Reads};
-ghost use Rattle.sot_tree.specs.Formed.{IsFormed};
+ghost use Rattle.sot_syntax_tree.specs.Formed.{IsFormed};
 
 /// Words that are tokens, and that touch only where they may, are read back from their text.
 #[tactic(auto, using(crate::proofs::ReadBack::words_read))]

@@ -8,7 +8,7 @@ ghost use Rattle.sot_print.specs.Leaves.{scalar_words, field_words};
 
 use crate::gap::{Gap, push_characters, push_gap, push_word};
 use crate::numeral::push_numeral;
-use sot_tree::{Bounds, Const, Field, Ident, Lit, Member, Name, Scalar};
+use sot_syntax_tree::{Bounds, Const, Field, Ident, Lit, Member, Name, Scalar};
 use std::alloc::AllocError;
 
 // A name of more letters, in one piece.

@@ -1,13 +1,13 @@
 //! Whole programs.
 ghost use Rattle.std.specs.Prelude.{◌≡◌, ◌++◌, ◌==◌, true, map, OnOk, IfOk};
 ghost use Rattle.std.specs.String.{string_bytes};
-ghost use Rattle.sot_tree.specs.TreeViews.{declaration_view, program_view};
+ghost use Rattle.sot_syntax_tree.specs.TreeViews.{declaration_view, program_view};
 ghost use Rattle.sot_print.specs.Words.{laid};
 ghost use Rattle.sot_print.specs.Canonical.{own_line, declarations_from, canonical};
 
 use crate::declaration::push_declaration;
 use crate::gap::Gap;
-use sot_tree::{Decl, Program};
+use sot_syntax_tree::{Decl, Program};
 use std::alloc::{AllocError, Global};
 
 // What stands before a declaration: nothing before the first, and else a line end.

@@ -2,7 +2,7 @@
 ghost use Rattle.std.specs.Prelude.{◌≡◌, ◌∷◌, ◌++◌, OnOk};
 ghost use Rattle.sot_print.specs.declared.gap.Gap.TheVariants.{Space};
 ghost use Rattle.std.specs.String.{string_bytes};
-ghost use Rattle.sot_tree.specs.TreeViews.{tree_view, statement_view, block_view};
+ghost use Rattle.sot_syntax_tree.specs.TreeViews.{tree_view, statement_view, block_view};
 ghost use Rattle.sot_print.specs.Words.{laid};
 ghost use Rattle.sot_print.specs.Expressions.{expression_words};
 ghost use Rattle.sot_print.specs.Statements.{semicolon, braced_words, otherwise_words};
@@ -11,7 +11,7 @@ ghost use Rattle.sot_print.specs.Statements.{statement_words, block_words};
 use crate::expression::push_expression;
 use crate::gap::{Gap, push_word};
 use crate::leaf::{push_ident, push_literal, push_member};
-use sot_tree::{Expr, Stmt};
+use sot_syntax_tree::{Expr, Stmt};
 use std::alloc::AllocError;
 
 pub fn push_semicolon(out: &mut String) -> Result<(), AllocError>

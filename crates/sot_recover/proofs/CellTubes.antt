@@ -25,8 +25,8 @@ use Rattle.sot_tube.proofs.Leaving.{hulls_same}
 use Rattle.sot_rta.specs.Cells.{MayHaveCells, AreHeldCommands}
 use Rattle.sot_law_runs.specs.TubeBoxes.{IsBoxAfter}
 use Rattle.sot_law_runs.proofs.TubeBoxes.{boxes}
-use Rattle.sot_law_recovery.specs.Holds.{Guarded}
-use Rattle.sot_law_recovery.proofs.Rows.{guarded_modules}
+use Rattle.sot_law_runs.specs.Holds.{Guarded}
+use Rattle.sot_law_runs.proofs.Rows.{guarded_modules}
 use Rattle.sot_recover.specs.Tubes.{GoesOn, AreTubeBoxes, IsTubeOf}
 
 -- a closed cell has the width of the module's plant

@@ -10,7 +10,7 @@ use Rattle.sot_lists.proofs.Places.{drop_at}
 use Rattle.sot_box.specs.Sides.{Side}
 use Rattle.sot_box.specs.Boxes.{IsWithin}
 use Rattle.sot_box.specs.Regions.{IsInRegion, CoversAll}
-use Rattle.sot_law_recovery.proofs.OneRank.{choose}
+use Rattle.sot_law_runs.proofs.OneRank.{choose}
 use Rattle.sot_recover.specs.Chosen.{places_from, chosen}
 
 -- one place more

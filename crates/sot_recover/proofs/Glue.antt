@@ -9,11 +9,11 @@ use Rattle.sot_lists.specs.Places.{At, Has}
 use Rattle.sot_box.specs.Sides.{Side}
 use Rattle.sot_lang.specs.declared.cert.Cert.{Cert}
 use Rattle.sot_lang.specs.Tables.{Tables}
-use Rattle.sot_law_recovery.specs.Holds.{Guarded}
-use Rattle.sot_law_recovery.specs.Ranks.{StaysSafer, LandsIn, HasRank}
-use Rattle.sot_ranking.specs.Sets.{IsSet, KeepIn, AreRanks, at_most}
-use Rattle.sot_ranking.proofs.Sets.{put_there, kept_others}
-use Rattle.sot_ranking.proofs.Levels.{at_set, set_at}
+use Rattle.sot_law_runs.specs.Holds.{Guarded}
+use Rattle.sot_law_runs.specs.Ranks.{StaysSafer, LandsIn, HasRank}
+use Rattle.sot_recover.specs.Sets.{IsSet, KeepIn, AreRanks, at_most}
+use Rattle.sot_recover.proofs.Sets.{put_there, kept_others}
+use Rattle.sot_recover.proofs.Levels.{at_set, set_at}
 use Rattle.sot_recover.specs.Found.{AreRanksOf}
 
 -- the flagged cells are those whose tubes stay safer

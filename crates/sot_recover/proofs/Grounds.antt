@@ -18,14 +18,14 @@ use Rattle.sot_tube.proofs.VerdictExact.{drafts_same}
 use Rattle.sot_tube.proofs.Leaving.{hulls_same}
 use Rattle.sot_law_runs.specs.TubeBoxes.{IsBoxAfter}
 use Rattle.sot_law_runs.proofs.TubeBoxes.{boxes, unique}
-use Rattle.sot_law_recovery.specs.Holds.{Guarded}
-use Rattle.sot_law_recovery.specs.Ranks.{IsLanding, LandsIn}
-use Rattle.sot_law_recovery.proofs.Rows.{guarded_modules}
+use Rattle.sot_law_runs.specs.Holds.{Guarded}
+use Rattle.sot_law_runs.specs.Ranks.{IsLanding, LandsIn}
+use Rattle.sot_law_runs.proofs.Rows.{guarded_modules}
 use Rattle.sot_tube.proofs.Certificate.{in_some_box}
-use Rattle.sot_law_recovery.proofs.OneRank.{same, lands_same}
-use Rattle.sot_ranking.specs.Sets.{IsSet, with_places, IsMonotone, IsHanging}
-use Rattle.sot_ranking.proofs.Sets.{kept_others, with_flag, with_place, set_below}
-use Rattle.sot_meeting_boxes.specs.Meeting.{Meet}
+use Rattle.sot_law_runs.proofs.OneRank.{same, lands_same}
+use Rattle.sot_recover.specs.Sets.{IsSet, with_places, IsMonotone, IsHanging}
+use Rattle.sot_recover.proofs.Sets.{kept_others, with_flag, with_place, set_below}
+use Rattle.sot_recover.specs.Meeting.{Meet}
 use Rattle.sot_recover.specs.Near.{AreOfWidth, IsNear}
 use Rattle.sot_recover.specs.Grounds.{LandsInSet, MayHang, AreLandingsCovered, IsGround}
 use Rattle.sot_recover.specs.Surveys.{IsSurveyed}

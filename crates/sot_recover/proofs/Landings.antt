@@ -19,16 +19,16 @@ use Rattle.sot_law_runs.proofs.TubeBoxes.{unique, boxes as boxes_of}
 use Rattle.sot_lang.specs.declared.tables.PlantInfo.{PlantInfo}
 use Rattle.sot_iv.specs.PlantIntervals.{IsNextBox}
 use Rattle.sot_tube.specs.Tubes.{StaysInside}
-use Rattle.sot_law_recovery.specs.Holds.{Guarded}
-use Rattle.sot_law_recovery.specs.Ranks.{StaysSafer, IsLanding}
+use Rattle.sot_law_runs.specs.Holds.{Guarded}
+use Rattle.sot_law_runs.specs.Ranks.{StaysSafer, IsLanding}
 use Rattle.std.proofs.lemmas.Int.{ints}
 use Rattle.std.proofs.lemmas.List.{nil_from_length}
 use Rattle.sot_lang.specs.OwnerNames.{width_of}
 use Rattle.sot_lang.specs.TableRules.{MeetsTableRules}
 use Rattle.sot_lang.proofs.Owners.{width_at}
 use Rattle.sot_tube.proofs.Walks.{terms_long}
-use Rattle.sot_meeting_boxes.specs.Meeting.{IsAround, IsAroundAll}
-use Rattle.sot_meeting_boxes.proofs.Sides.{at_dropped, dropped_at}
+use Rattle.sot_recover.specs.Meeting.{IsAround, IsAroundAll}
+use Rattle.sot_recover.proofs.Sides.{at_dropped, dropped_at}
 use Rattle.sot_recover.specs.Tubes.{AreTubeBoxes, IsTubeOf}
 use Rattle.sot_recover.specs.Grounds.{IsHullOf, AreLandingsCovered}
 

@@ -9,3 +9,6 @@ pub mod Ranked
 pub mod Reached
 pub mod Whole
 pub mod Chosen
+pub mod Sides
+pub mod Sets
+pub mod Levels

@@ -7,9 +7,9 @@ use Rattle.sot_lists.proofs.Places.{at_below}
 use Rattle.sot_box.specs.Sides.{Side}
 use Rattle.sot_lang.specs.declared.cert.Cert.{Cert}
 use Rattle.sot_lang.specs.Tables.{Tables}
-use Rattle.sot_law_recovery.specs.Holds.{Guarded}
-use Rattle.sot_ranking.specs.Sets.{IsSet, KeepIn, AreRanks, at_most}
-use Rattle.sot_ranking.proofs.Sets.{set_below}
+use Rattle.sot_law_runs.specs.Holds.{Guarded}
+use Rattle.sot_recover.specs.Sets.{IsSet, KeepIn, AreRanks, at_most}
+use Rattle.sot_recover.proofs.Sets.{set_below}
 use Rattle.sot_recover.specs.Grounds.{LandsInSet, IsGround}
 use Rattle.sot_recover.specs.Surveys.{IsSurveyed}
 use Rattle.sot_recover.specs.Found.{AreRanksOf}

@@ -11,9 +11,9 @@ use Rattle.sot_box.proofs.Laws.{first_gap_uncovered}
 use Rattle.sot_lang.specs.declared.cert.Cert.{Cert}
 use Rattle.sot_lang.specs.Tables.{Tables}
 use Rattle.sot_rta.proofs.CellChecks.{covers_points}
-use Rattle.sot_law_recovery.specs.Holds.{Guarded}
-use Rattle.sot_law_recovery.specs.Ranks.{HasRank, Reaches, IsRank, HasNoRank}
-use Rattle.sot_law_recovery.proofs.OneRank.{choose}
+use Rattle.sot_law_runs.specs.Holds.{Guarded}
+use Rattle.sot_law_runs.specs.Ranks.{HasRank, Reaches, IsRank, HasNoRank}
+use Rattle.sot_law_runs.proofs.OneRank.{choose}
 use Rattle.sot_recover.specs.Chosen.{places_from, IsLeastCover}
 use Rattle.sot_recover.specs.Found.{AreRanksOf}
 use Rattle.sot_recover.proofs.Chosen.{chosen_has, has_chosen}

@@ -9,9 +9,9 @@ use Rattle.sot_lists.proofs.Places.{at_same}
 use Rattle.sot_box.specs.Sides.{Side}
 use Rattle.sot_lang.specs.declared.cert.Cert.{Cert}
 use Rattle.sot_lang.specs.Tables.{Tables}
-use Rattle.sot_law_recovery.specs.Holds.{Guarded}
-use Rattle.sot_law_recovery.specs.Ranks.{StaysSafer}
-use Rattle.sot_ranking.proofs.Sets.{flag_cases, one_more}
+use Rattle.sot_law_runs.specs.Holds.{Guarded}
+use Rattle.sot_law_runs.specs.Ranks.{StaysSafer}
+use Rattle.sot_recover.proofs.Sets.{flag_cases, one_more}
 use Rattle.sot_recover.specs.Grounds.{IsHullOf}
 use Rattle.sot_recover.specs.Surveys.{IsSurveyed}
 use Rattle.sot_recover.proofs.Boxes.{at_more}

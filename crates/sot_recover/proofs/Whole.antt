@@ -11,9 +11,9 @@ use Rattle.sot_lang.specs.declared.tables.ModuleInfo.{ModuleInfo}
 use Rattle.sot_lang.specs.Tables.{Tables}
 use Rattle.sot_lang.specs.OwnerNames.{width_of}
 use Rattle.sot_lang.specs.CertRules.{FitsTables, AreCellsOf}
-use Rattle.sot_law_recovery.specs.Holds.{Guarded}
-use Rattle.sot_law_recovery.specs.Ranks.{IsRank, HasNoRank}
-use Rattle.sot_meeting_boxes.specs.Meeting.{AreOfOneWidth}
+use Rattle.sot_law_runs.specs.Holds.{Guarded}
+use Rattle.sot_law_runs.specs.Ranks.{IsRank, HasNoRank}
+use Rattle.sot_recover.specs.Meeting.{AreOfOneWidth}
 use Rattle.sot_recover.specs.declared.fail.RecoverFail.{RecoverFail}
 use Rattle.sot_recover.specs.declared.fail.RecoverFail.TheVariants.{Never, Memory}
 use Rattle.sot_recover.specs.Answers.{IfNever}

@@ -2,8 +2,8 @@
 use Rattle.std.specs.Prelude.{ℕ, ◌≡◌, ◌<◌, ◌≤◌, ◌↔◌, List, length, slice_index_or}
 use Rattle.sot_lang.specs.declared.cert.Cert.{Cert}
 use Rattle.sot_lang.specs.Tables.{Tables}
-use Rattle.sot_law_recovery.specs.Holds.{Guarded}
-use Rattle.sot_law_recovery.specs.Ranks.{HasRank}
+use Rattle.sot_law_runs.specs.Holds.{Guarded}
+use Rattle.sot_law_runs.specs.Ranks.{HasRank}
 
 -- the numbers are the ranks of the cells; a cell that has a rank has one that is at most the number
 -- of cells

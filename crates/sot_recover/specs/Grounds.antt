@@ -9,10 +9,10 @@ use Rattle.sot_lang.specs.Tables.{Tables}
 use Rattle.sot_lang.specs.CertRules.{FitsTables}
 use Rattle.sot_lang.specs.TableRules.{MeetsTableRules}
 use Rattle.sot_tube.specs.Certified.{IsWellCertified}
-use Rattle.sot_law_recovery.specs.Holds.{Guarded}
-use Rattle.sot_law_recovery.specs.Ranks.{IsLanding, LandsIn}
-use Rattle.sot_ranking.specs.Sets.{IsSet}
-use Rattle.sot_meeting_boxes.specs.Meeting.{Meet}
+use Rattle.sot_law_runs.specs.Holds.{Guarded}
+use Rattle.sot_law_runs.specs.Ranks.{IsLanding, LandsIn}
+use Rattle.sot_recover.specs.Sets.{IsSet}
+use Rattle.sot_recover.specs.Meeting.{Meet}
 
 -- a cell lands in the flagged cells
 abbrev pub LandsInSet : Tables → Cert → ℕ → List Bool → ℕ → Type 0

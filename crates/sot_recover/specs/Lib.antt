@@ -1,5 +1,7 @@
 -- what the public contracts say
 pub mod Answers
+pub mod Meeting
+pub mod Sets
 -- between the crate's own functions
 pub mod Near
 pub mod Grounds
@@ -7,3 +9,6 @@ pub mod Tubes
 pub mod Surveys
 pub mod Chosen
 pub mod Found
+pub mod Blocks
+pub mod Thinned
+pub mod Entered

@@ -4,7 +4,7 @@ use Rattle.sot_lists.specs.Places.{At}
 use Rattle.sot_box.specs.Sides.{Side}
 use Rattle.sot_box.specs.Boxes.{IsWithin}
 use Rattle.sot_box.specs.Regions.{IsInRegion}
-use Rattle.sot_ranking.specs.Sets.{IsSet}
+use Rattle.sot_recover.specs.Sets.{IsSet}
 
 -- each box has so many axes
 abbrev pub AreOfWidth : ℕ → List (List Side) → Type 0

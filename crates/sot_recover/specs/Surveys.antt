@@ -4,9 +4,9 @@ use Rattle.sot_lists.specs.Places.{At, Has}
 use Rattle.sot_box.specs.Sides.{Side}
 use Rattle.sot_lang.specs.declared.cert.Cert.{Cert}
 use Rattle.sot_lang.specs.Tables.{Tables}
-use Rattle.sot_law_recovery.specs.Holds.{Guarded}
-use Rattle.sot_law_recovery.specs.Ranks.{StaysSafer}
-use Rattle.sot_ranking.specs.Sets.{IsSet}
+use Rattle.sot_law_runs.specs.Holds.{Guarded}
+use Rattle.sot_law_runs.specs.Ranks.{StaysSafer}
+use Rattle.sot_recover.specs.Sets.{IsSet}
 use Rattle.sot_recover.specs.Grounds.{IsHullOf}
 
 -- of the first n cells: a hull of the landings of each, whether its tube is inside the safer

@@ -9,7 +9,7 @@ use Rattle.sot_lang.specs.SafeRegions.{AreHulls, joined_boxes}
 use Rattle.sot_iv.specs.BodyIntervals.{Intervals}
 use Rattle.sot_tube.specs.Certified.{DraftsFrom, command_intervals}
 use Rattle.sot_law_runs.specs.TubeBoxes.{IsBoxAfter}
-use Rattle.sot_law_recovery.specs.Holds.{Guarded}
+use Rattle.sot_law_runs.specs.Holds.{Guarded}
 
 -- there is a box after each of so many ticks
 abbrev pub GoesOn : PlantInfo → List Side → List Side → List Side → ℕ → Type 0

@@ -6,15 +6,15 @@ ghost use Rattle.sot_box.specs.Sides.{Side as Interval_};
 ghost use Rattle.sot_tube.specs.Certified.{IsWellCertified};
 ghost use Rattle.sot_lang.specs.TableRules.{MeetsTableRules};
 ghost use Rattle.sot_lang.specs.CertRules.{FitsTables};
-ghost use Rattle.sot_law_recovery.specs.Holds.{Guarded};
+ghost use Rattle.sot_law_runs.specs.Holds.{Guarded};
 ghost use Rattle.sot_recover.specs.Grounds.{LandsInSet, MayHang, IsGround, AreLandingsCovered};
 
+use crate::index::BoxIndex;
+use crate::landing::Landing;
 use crate::near::{covers_each, near_cells};
 use crate::tube::{boxes_from, first_landing, put_tube};
 use sot_box::{BoxN, Region};
 use sot_lang::{Cert, Typed};
-use sot_meeting_boxes::BoxIndex;
-use sot_ranking::Landing;
 use std::alloc::{AllocError, Global};
 
 /// The closed cells of a module, with a hull of the landings of each.

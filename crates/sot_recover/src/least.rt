@@ -8,8 +8,8 @@ ghost use Rattle.sot_recover.specs.Near.{AreOfWidth};
 ghost use Rattle.sot_recover.specs.Chosen.{chosen, IsHalf, IsLeastCover};
 
 use crate::fail::RecoverFail;
+use crate::index::BoxIndex;
 use sot_box::{BoxN, Point, Region, uncovered};
-use sot_meeting_boxes::BoxIndex;
 use std::alloc::{AllocError, Global};
 
 // Pushes a box, if it is to be there.

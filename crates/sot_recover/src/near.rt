@@ -4,11 +4,11 @@ ghost use Rattle.std.specs.Prelude.{ℕ, ℤ, List, ◌≡◌, ◌<◌, ◌⊎�
 ghost use Rattle.sot_lists.specs.Places.{At, Has};
 ghost use Rattle.sot_box.specs.Sides.{Side as Interval_};
 ghost use Rattle.sot_box.specs.Regions.{IsInRegion, Covers};
-ghost use Rattle.sot_ranking.specs.Sets.{IsSet};
+ghost use Rattle.sot_recover.specs.Sets.{IsSet};
 ghost use Rattle.sot_recover.specs.Near.{AreOfWidth, IsInChosen, IsNear};
 
+use crate::index::BoxIndex;
 use sot_box::{BoxN, Region};
-use sot_meeting_boxes::BoxIndex;
 use std::alloc::{AllocError, Global};
 
 // From so many boxes on an index of a region pays for itself.

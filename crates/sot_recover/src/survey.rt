@@ -6,16 +6,16 @@ ghost use Rattle.sot_lists.specs.Places.{At, Has};
 ghost use Rattle.sot_tube.specs.Certified.{IsWellCertified};
 ghost use Rattle.sot_lang.specs.TableRules.{MeetsTableRules};
 ghost use Rattle.sot_lang.specs.CertRules.{FitsTables};
-ghost use Rattle.sot_law_recovery.specs.Holds.{Guarded};
-ghost use Rattle.sot_law_recovery.specs.Ranks.{StaysSafer};
+ghost use Rattle.sot_law_runs.specs.Holds.{Guarded};
+ghost use Rattle.sot_law_runs.specs.Ranks.{StaysSafer};
 ghost use Rattle.sot_recover.specs.Grounds.{IsHullOf};
 ghost use Rattle.sot_recover.specs.Surveys.{IsSurveyed};
 
+use crate::hull::hull_of;
 use crate::near::covers_each;
 use crate::tube::{boxes_from, first_landing, put_tube};
 use sot_box::{BoxN, Region};
 use sot_lang::{Cert, Typed};
-use sot_meeting_boxes::hull_of;
 use sot_rta::module_at;
 use std::alloc::{AllocError, Global};
 

@@ -7,7 +7,7 @@ ghost use Rattle.sot_lang.specs.TableRules.{MeetsTableRules};
 ghost use Rattle.sot_lang.specs.CertRules.{FitsTables};
 ghost use Rattle.sot_tube.specs.Certified.{IsWellCertified};
 ghost use Rattle.sot_iv.specs.PlantTicks.{MayTickBox};
-ghost use Rattle.sot_law_recovery.specs.Holds.{Guarded};
+ghost use Rattle.sot_law_runs.specs.Holds.{Guarded};
 ghost use Rattle.sot_recover.specs.Tubes.{GoesOn, AreTubeBoxes, IsTubeOf};
 
 use sot_box::{BoxN, Interval};

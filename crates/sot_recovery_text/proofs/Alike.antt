@@ -12,10 +12,10 @@ use Rattle.sot_lang.specs.declared.tables.ModuleInfo.{ModuleInfo}
 use Rattle.sot_lang.specs.declared.tables.NodeInfo.{NodeInfo}
 use Rattle.sot_lang.specs.Tables.{Tables}
 use Rattle.sot_typing.specs.Resolved.{NodeTable, node_seen, tables_seen}
-use Rattle.sot_law_same_tables.proofs.Seen.{modules_same, nodes_seen_same}
-use Rattle.sot_law_same_ranks.specs.Laws.{LookTheSame}
-use Rattle.sot_law_same_ranks.proofs.Parts.{turned}
-use Rattle.sot_law_same_ranks.proofs.Ranks.{one_answer}
+use Rattle.sot_law_equal_tables.proofs.Seen.{modules_same, nodes_seen_same}
+use Rattle.sot_law_equal_ranks.specs.Laws.{LookTheSame}
+use Rattle.sot_law_equal_ranks.proofs.Parts.{turned}
+use Rattle.sot_law_equal_ranks.proofs.Ranks.{one_answer}
 use Rattle.sot_lang.specs.Names.{module_name}
 use Rattle.sot_report.specs.Pieces.{line}
 use Rattle.sot_report.specs.RefusalTexts.{gap_line, at_point}

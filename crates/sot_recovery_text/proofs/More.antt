@@ -8,8 +8,8 @@ use Rattle.sot_lists.specs.Places.{At}
 use Rattle.sot_lists.proofs.Places.{at_below}
 use Rattle.sot_lang.specs.declared.cert.Cert.{Cert}
 use Rattle.sot_lang.specs.Tables.{Tables}
-use Rattle.sot_law_recovery.specs.Holds.{Guarded}
-use Rattle.sot_law_recovery.specs.Ranks.{HasNoRank}
+use Rattle.sot_law_runs.specs.Holds.{Guarded}
+use Rattle.sot_law_runs.specs.Ranks.{HasNoRank}
 use Rattle.sot_recover.specs.declared.fail.RecoverFail.{RecoverFail}
 use Rattle.sot_recover.specs.declared.fail.RecoverFail.TheVariants as one
 use Rattle.sot_recover.specs.Answers.{IfNever}

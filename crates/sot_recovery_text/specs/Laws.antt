@@ -2,7 +2,7 @@
 use Rattle.std.specs.Prelude.{ℕ, ◌≡◌, List}
 use Rattle.sot_lang.specs.declared.cert.Cert.{Cert}
 use Rattle.sot_lang.specs.Tables.{Tables}
-use Rattle.sot_law_same_ranks.specs.Laws.{LookTheSame}
+use Rattle.sot_law_equal_ranks.specs.Laws.{LookTheSame}
 use Rattle.sot_recovery_text.specs.Recovery.{AllRecover, SomeNever}
 
 -- of tables that look the same one text is told, and not that all modules of the one recover and

@@ -3,9 +3,9 @@ use Rattle.std.specs.Prelude.{ℕ, ℤ, ◌≡◌, ◌<◌, List, length, codes}
 use Rattle.sot_lists.specs.Places.{At}
 use Rattle.sot_lang.specs.declared.cert.Cert.{Cert}
 use Rattle.sot_lang.specs.Tables.{Tables}
-use Rattle.sot_law_recovery.specs.Holds.{Guarded, IsRecovered}
-use Rattle.sot_law_recovery.specs.Ranks.{IsRank, HasNoRank}
-use Rattle.sot_law_recovery.specs.RunHolds.{FiringsAreHolds, TrustsAfter}
+use Rattle.sot_law_runs.specs.Holds.{Guarded, IsRecovered}
+use Rattle.sot_law_runs.specs.Ranks.{IsRank, HasNoRank}
+use Rattle.sot_law_runs.specs.RunHolds.{FiringsAreHolds, TrustsAfter}
 use Rattle.sot_report.specs.RefusalTexts.{gap_line}
 use Rattle.sot_recovery_text.specs.Lines.{recover_lines}
 use Rattle.sot_recovery_text.specs.declared.fail.RecoveryFail.{RecoveryFail}

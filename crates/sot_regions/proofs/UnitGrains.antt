@@ -9,9 +9,9 @@ use Rattle.sot_box.specs.Regions.{IsHull}
 use Rattle.sot_lang.specs.declared.tables.ModuleInfo.{ModuleInfo}
 use Rattle.sot_lang.specs.Tables.{Tables}
 use Rattle.sot_atoms.specs.Grids.{Cut, IsCut, IsGrainOf, IsFinest, CutsHull}
-use Rattle.sot_law_held_regions.specs.Following.{HasNoHeldRegion}
-use Rattle.sot_closed_atoms.specs.Asking.{Asked}
-use Rattle.sot_closed_atoms.specs.Greatest.{TellsNone}
+use Rattle.sot_law_invariant_regions.specs.Following.{HasNoHeldRegion}
+use Rattle.sot_invariant_atoms.specs.Asking.{Asked}
+use Rattle.sot_invariant_atoms.specs.Greatest.{TellsNone}
 use Rattle.sot_regions.specs.Grains.{IsUnitGrain}
 use Rattle.sot_regions.specs.Searches.{IsFinestOn, TellFinest}
 

@@ -7,7 +7,7 @@ use Rattle.sot_regions.specs.declared.search.Search.{Search}
 use Rattle.sot_regions.specs.declared.asked.Best.{Best}
 use Rattle.sot_regions.specs.declared.closing.Points.{Points}
 use Rattle.sot_regions.specs.Shapes.{HasShape}
-use Rattle.sot_closed_atoms.specs.Asking.{asked_width}
+use Rattle.sot_invariant_atoms.specs.Asking.{asked_width}
 
 -- the grid is one of as many sides as the plant that is asked about has state variables
 abbrev pub IsSearch : Search → Type 0

@@ -2,7 +2,7 @@
 use Rattle.std.specs.Prelude.{◌≡◌, ℕ, ◌<◌, ◌≤◌, List, length}
 use Rattle.std.specs.List.{All}
 use Rattle.sot_box.specs.Sides.{Side}
-use Rattle.sot_regions.specs.declared.found.Found.{Found}
+use Rattle.sot_regions.specs.declared.found.FoundRegions.{FoundRegions}
 
 -- each box has so many sides
 abbrev pub AreWide : ℕ → List (List Side) → Type 0
@@ -15,7 +15,7 @@ pub record IsShort (width : ℕ) (boxes : List (List Side)) : Type 0 where
   pub wide : AreWide width boxes
 
 -- two such regions, and at most 4,096 cells
-pub record HasShape (width : ℕ) (found : Found) : Type 0 where
+pub record HasShape (width : ℕ) (found : FoundRegions) : Type 0 where
   pub safe : IsShort width found.safe.items
   pub safer : IsShort width found.safer.items
   pub few_cells : length found.cells.items ≤ 4096

@@ -2,19 +2,19 @@
 
 ghost use Rattle.std.specs.Prelude.{◌≡◌, ◌≤◌, ◌<◌, ℤ, List, length, IfOk, IfErr, IfSome, OnOk};
 ghost use Rattle.sot_atoms.specs.Grids.{CutsHull};
-ghost use Rattle.sot_closed_atoms.specs.Asking.{asked_width};
+ghost use Rattle.sot_invariant_atoms.specs.Asking.{asked_width};
 ghost use Rattle.sot_regions.specs.Shapes.{AreWide, HasShape};
 ghost use Rattle.sot_regions.specs.Searches.{IsSearch, IsBest};
 ghost use Rattle.sot_regions.specs.declared.found.RegionsFail.TheVariants.{SafeNone};
 
 use crate::cells::cells_of;
 use crate::cover::{Adding, Cover, cover_of};
-use crate::found::{Found, RegionsFail};
+use crate::found::{FoundRegions, RegionsFail};
 use crate::growing::orders;
 use crate::search::{Good, Search};
 use sot_atoms::{AtomSet, Block, Grid, MOST_ATOMS, Sums, atoms_in};
 use sot_box::{BoxN, Region};
-use sot_closed_atoms::{Ask, atoms_of, greatest};
+use sot_invariant_atoms::{ModuleAsk, atoms_of, greatest};
 use sot_rta::node_at;
 use std::alloc::{AllocError, Global};
 
@@ -29,7 +29,7 @@ const MOST_TICKS: u64 = 134_217_728;
 struct Best {
     // how many atoms of the narrowest grain the safe region has
     worth: u64,
-    found: Option<Found>,
+    found: Option<FoundRegions>,
     // whether some safe region had no safer one
     no_safer: bool,
 }
@@ -87,7 +87,7 @@ fn improve(search: &Search<'_>, safe: Cover, worth: u64, best: &mut Best) -> Res
         best.no_safer = true;
         return Ok(());
     }
-    let found = Found {
+    let found = FoundRegions {
         safe: areas(search.alloc, grid, &boxes)?,
         safer: areas(search.alloc, grid, &safer.boxes)?,
         cells: areas(search.alloc, grid, &cells)?,
@@ -132,7 +132,7 @@ fn look(
 /// The greatest closed set of atoms inside a region.
 pub(crate) fn closed_in(
     alloc: Global,
-    ask: &Ask<'_>,
+    ask: &ModuleAsk<'_>,
     grid: &Grid,
     given: &Region,
 ) -> Result<AtomSet, AllocError>
@@ -145,7 +145,7 @@ pub(crate) fn closed_in(
 }
 
 // The most atoms of a grid, by how long held tubes are.
-fn most_atoms(ask: &Ask<'_>) -> u64 {
+fn most_atoms(ask: &ModuleAsk<'_>) -> u64 {
     let period = node_at(ask.program(), ask.info().sc).period;
     let ticks = u64::from(period).saturating_add(u64::from(ask.jitter()));
     (MOST_ATOMS as u64).min(MOST_TICKS / ticks.max(1))
@@ -154,7 +154,7 @@ fn most_atoms(ask: &Ask<'_>) -> u64 {
 // Looks with coarser and coarser grains for better regions.
 fn coarsen(
     alloc: Global,
-    ask: &Ask<'_>,
+    ask: &ModuleAsk<'_>,
     given: &Region,
     narrowest: &Grid,
     best: &mut Best,
@@ -184,7 +184,7 @@ fn coarsen(
 }
 
 /// The grid of a hull with the narrowest grains that have few enough atoms. There is always one.
-pub(crate) fn narrowest_grid(ask: &Ask<'_>, hull: &BoxN) -> Option<Grid>
+pub(crate) fn narrowest_grid(ask: &ModuleAsk<'_>, hull: &BoxN) -> Option<Grid>
     ensures width { IfSome result (λ g. g.width ≡ length hull.now) }
     ensures cuts { IfSome result (λ g. CutsHull g hull.now) }
 {
@@ -194,11 +194,11 @@ pub(crate) fn narrowest_grid(ask: &Ask<'_>, hull: &BoxN) -> Option<Grid>
 /// The best regions inside the given one, of whose atoms on the narrowest grid these are closed.
 pub(crate) fn regions_from(
     alloc: Global,
-    ask: &Ask<'_>,
+    ask: &ModuleAsk<'_>,
     given: &Region,
     narrowest: &Grid,
     set: &AtomSet,
-) -> Result<Found, RegionsFail>
+) -> Result<FoundRegions, RegionsFail>
     requires narrowest { narrowest.now.width ≡ asked_width ask.now }
     requires given { given.now.width ≡ asked_width ask.now }
     ensures shape { IfOk result (HasShape (asked_width ask.now)) }

@@ -8,7 +8,7 @@ use crate::search::{Good, Search, Worth};
 use crate::thin::{region_of, thin};
 use sot_atoms::{AtomSet, Block, Grid, Sums, halves_of};
 use sot_box::{BoxN, Region};
-use sot_closed_atoms::{Among, held_boxes, held_stays};
+use sot_invariant_atoms::{Among, held_boxes, held_stays};
 use std::alloc::AllocError;
 
 // The most boxes of a region that is being closed.

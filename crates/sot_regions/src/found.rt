@@ -8,7 +8,7 @@ use std::alloc::{AllocError, AllocFailed};
 
 /// Boxes of the plant of a module, in order.
 #[derive(Drop)]
-pub struct Found {
+pub struct FoundRegions {
     /// The safe region.
     pub safe: Vec<BoxN>,
     /// The safer region, whose boxes are its reach cells too.

@@ -14,5 +14,5 @@ mod search;
 mod seeds;
 mod thin;
 
-pub use found::{Found, RegionsFail};
+pub use found::{FoundRegions, RegionsFail};
 pub use module::regions_of;

@@ -4,20 +4,20 @@ ghost use Rattle.std.specs.Prelude.{◌≡◌, ◌<◌, ℤ, pos, List, IfOk, If
 ghost use Rattle.sot_lists.specs.Places.{At};
 ghost use Rattle.sot_lang.specs.declared.tables.ModuleInfo.{ModuleInfo as AModule};
 ghost use Rattle.sot_lang.specs.OwnerNames.{width_of};
-ghost use Rattle.sot_closed_atoms.specs.Asking.{MayAsk};
+ghost use Rattle.sot_invariant_atoms.specs.Asking.{MayAsk};
 ghost use Rattle.sot_atoms.specs.Grids.{IsFinest};
-ghost use Rattle.sot_law_held_regions.specs.Following.{HasNoHeldRegion};
+ghost use Rattle.sot_law_invariant_regions.specs.Following.{HasNoHeldRegion};
 ghost use Rattle.sot_regions.specs.Shapes.{HasShape};
 ghost use Rattle.sot_regions.specs.Grains.{IsUnitGrain};
 ghost use Rattle.sot_regions.specs.Searches.{IsFinestOn};
 ghost use Rattle.sot_regions.specs.declared.found.RegionsFail.TheVariants.{SafeNone};
 
 use crate::asked::{narrowest_grid, regions_from};
-use crate::found::{Found, RegionsFail};
+use crate::found::{FoundRegions, RegionsFail};
 use crate::narrowing::narrowed;
 use sot_atoms::Grid;
 use sot_box::Point;
-use sot_closed_atoms::{Ask, closed_atoms};
+use sot_invariant_atoms::{ModuleAsk, closed_atoms};
 use sot_lang::Typed;
 use sot_rta::module_at;
 use std::alloc::Global;
@@ -45,7 +45,12 @@ fn grains(grid: &Grid) -> Point
 
 /// Regions and cells for a module of a program, inside its safe region, which is what must never be
 /// left. `jitter` is how many ticks each node may be late.
-pub fn regions_of(alloc: Global, p: &Typed, module: u32, jitter: u32) -> Result<Found, RegionsFail>
+pub fn regions_of(
+    alloc: Global,
+    p: &Typed,
+    module: u32,
+    jitter: u32,
+) -> Result<FoundRegions, RegionsFail>
     requires { MayAsk p.now «module» jitter }
     ensures shape { IfOk result (λ found. (info : AModule) → At p.now.modules «module» info
         → HasShape (width_of p.now.plants info.plant) found) }
@@ -54,7 +59,7 @@ pub fn regions_of(alloc: Global, p: &Typed, module: u32, jitter: u32) -> Result<
         → HasNoHeldRegion p.now jitter info) }
 {
     let given = &module_at(p, module).safe;
-    let ask = Ask::of(p, module, jitter);
+    let ask = ModuleAsk::of(p, module, jitter);
     let Some(hull) = given.hull() else {
         return Err(RegionsFail::TooMany);
     };

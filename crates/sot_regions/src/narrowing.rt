@@ -1,14 +1,14 @@
 //! Less is asked where all that is asked wants too many boxes.
 
 ghost use Rattle.std.specs.Prelude.{◌≡◌, ◌<◌, ℤ, List, length, IfOk, IfErr, IfSome};
-ghost use Rattle.sot_closed_atoms.specs.Asking.{asked_width};
+ghost use Rattle.sot_invariant_atoms.specs.Asking.{asked_width};
 ghost use Rattle.sot_regions.specs.Shapes.{HasShape};
 ghost use Rattle.sot_regions.specs.declared.found.RegionsFail.TheVariants.{SafeNone};
 
 use crate::asked::{closed_in, narrowest_grid, regions_from};
-use crate::found::{Found, RegionsFail};
+use crate::found::{FoundRegions, RegionsFail};
 use sot_box::{BoxN, Interval, Region};
-use sot_closed_atoms::Ask;
+use sot_invariant_atoms::ModuleAsk;
 use std::alloc::{AllocError, Global};
 
 // How far the ends of a side are apart.
@@ -96,12 +96,12 @@ fn part_in(
 // Regions in the middle of one side, or why there are none.
 fn regions_beside(
     alloc: Global,
-    ask: &Ask<'_>,
+    ask: &ModuleAsk<'_>,
     given: &Region,
     width: usize,
     side: usize,
     numbers: Interval,
-) -> Result<Found, RegionsFail>
+) -> Result<FoundRegions, RegionsFail>
     requires asked { width ≡ asked_width ask.now }
     requires given { width ≡ given.now.width }
     requires there { side < width }
@@ -123,10 +123,10 @@ fn regions_beside(
 /// side first: the first ones that are found.
 pub(crate) fn narrowed(
     alloc: Global,
-    ask: &Ask<'_>,
+    ask: &ModuleAsk<'_>,
     given: &Region,
     hull: &BoxN,
-) -> Result<Found, RegionsFail>
+) -> Result<FoundRegions, RegionsFail>
     requires given { given.now.width ≡ asked_width ask.now }
     requires hull { length hull.now ≡ asked_width ask.now }
     ensures shape { IfOk result (HasShape (asked_width ask.now)) }

@@ -5,14 +5,14 @@ ghost use Rattle.sot_regions.specs.Searches.{IsSearch};
 
 use crate::growing::{End, Order, grown, room};
 use sot_atoms::{AtomSet, Block, Grid, Sums, atoms_in};
-use sot_closed_atoms::{Among, Ask, any_stays, held_stays};
+use sot_invariant_atoms::{Among, ModuleAsk, any_stays, held_stays};
 use std::alloc::{AllocError, Global};
 
 /// In which grid is searched, and whose tubes are asked for.
 #[derive(Clone, Copy)]
 pub(crate) struct Search<'a> {
     pub(crate) alloc: Global,
-    pub(crate) ask: &'a Ask<'a>,
+    pub(crate) ask: &'a ModuleAsk<'a>,
     pub(crate) grid: &'a Grid,
     pub(crate) orders: &'a [Order],
 }

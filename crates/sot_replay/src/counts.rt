@@ -6,13 +6,13 @@ use crate::judged::Added;
 
 /// The ticks of a history so far, and its numbers outside their scalars' ranges.
 #[derive(Clone, Copy)]
-pub struct Counts {
+pub struct ReplayCounts {
     pub ticks: usize,
     pub refused: u128,
 }
 
 /// The counts with an entry more.
-pub fn counted(counts: Counts, added: Added) -> Counts
+pub fn counted(counts: ReplayCounts, added: Added) -> ReplayCounts
     requires ticks { counts.ticks < 2 ^ 41 }
     requires refused { counts.refused < 2 ^ 41 }
     ensures ticks { result.ticks ≡ counts.ticks + added.ticks }
@@ -20,7 +20,7 @@ pub fn counted(counts: Counts, added: Added) -> Counts
     ensures few_ticks { result.ticks ≤ counts.ticks + 255 }
     ensures few_refused { result.refused ≤ counts.refused + 255 }
 {
-    Counts {
+    ReplayCounts {
         ticks: counts.ticks + usize::from(added.ticks),
         refused: counts.refused + u128::from(added.refused),
     }

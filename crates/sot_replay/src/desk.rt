@@ -5,12 +5,12 @@ ghost use Rattle.sot_trace.specs.Words.{AreWords};
 ghost use Rattle.sot_trace_lines.specs.Shown.{AnswersFront, AnswersLine};
 
 use sot_lang::Typed;
-use sot_trace_lines::{Front, Line, read_front, read_line};
+use sot_trace_lines::{Line, LineFront, read_front, read_line};
 use std::alloc::{AllocError, Global};
 
 /// Where lines are read, and printed to be compared.
 #[derive(Drop)]
-pub struct Desk {
+pub struct LineDesk {
     // Where the next line's name is looked for first.
     from: usize,
     /// The value of an input or the disturbances of a tick, of the line that was read last.
@@ -19,10 +19,10 @@ pub struct Desk {
     pub printed: String,
 }
 
-impl Desk {
+impl LineDesk {
     /// An empty desk. Takes no memory.
-    pub fn new(alloc: Global) -> Desk {
-        Desk {
+    pub fn new(alloc: Global) -> LineDesk {
+        LineDesk {
             from: 0,
             numbers: Vec::new(alloc),
             printed: String::new(alloc),
@@ -38,7 +38,7 @@ impl Desk {
     }
 
     /// Reads what is looked at first of a line, as `read_front` of `sot_trace_lines`.
-    pub fn read_front(&mut self, p: &Typed, line: &[u8]) -> Result<Option<Front>, AllocError>
+    pub fn read_front(&mut self, p: &Typed, line: &[u8]) -> Result<Option<LineFront>, AllocError>
         requires { AreWords p.now }
         ensures { IfOk result (λ f. AnswersFront p.now line.now self.new.numbers.items f) }
     {

@@ -4,7 +4,7 @@ ghost use Rattle.std.specs.Prelude.{◌≡◌, sum_by, IfOk};
 ghost use Rattle.sot_trace.specs.Lines.{ticks_in, refused_in};
 ghost use Rattle.sot_replay.specs.Judges.{IsJudged, SpellsEnd};
 
-use crate::counts::Counts;
+use crate::counts::ReplayCounts;
 use crate::fail::LineKind;
 use crate::judged::Judged;
 use crate::now::is_now;
@@ -18,7 +18,7 @@ pub fn judge_end(
     board: &Board<'_>,
     line: &[u8],
     ticks: Option<i64>,
-    counts: Counts,
+    counts: ReplayCounts,
     printed: &mut String,
 ) -> Result<Judged, AllocError>
     requires spelled { SpellsEnd board.now.accepted.program line.now ticks }

@@ -11,7 +11,7 @@ ghost use Rattle.sot_world.specs.NodeSorts.{IsCodedNode, IsExternalNode};
 ghost use Rattle.sot_trace_lines.specs.declared.line.Line.TheVariants.{Fire as IsFire};
 ghost use Rattle.sot_replay.specs.Judges.{IsJudged, BeginsAsFiring, FiresAt, SpellsFiringAt};
 
-use crate::desk::Desk;
+use crate::desk::LineDesk;
 use crate::entry_line::compare;
 use crate::fail::LineKind;
 use crate::judged::{Judged, kind_of};
@@ -44,7 +44,7 @@ fn judge_coded(
     board: &mut Board<'_>,
     line: &[u8],
     node: u32,
-    desk: &mut Desk,
+    desk: &mut LineDesk,
 ) -> Result<Judged, AllocError>
     requires words { AreWords board.old.accepted.program }
     requires fires { FiresAt board.old.accepted.program board.old.position.at.time line.now node }
@@ -64,7 +64,7 @@ fn judge_stated(
     board: &mut Board<'_>,
     line: &[u8],
     node: u32,
-    desk: &mut Desk,
+    desk: &mut LineDesk,
 ) -> Result<Judged, AllocError>
     requires words { AreWords board.old.accepted.program }
     requires fires { FiresAt board.old.accepted.program board.old.position.at.time line.now node }
@@ -119,7 +119,7 @@ fn judge_guest(
     board: &mut Board<'_>,
     line: &[u8],
     node: u32,
-    desk: &mut Desk,
+    desk: &mut LineDesk,
 ) -> Result<Judged, AllocError>
     requires words { AreWords board.old.accepted.program }
     requires fires { FiresAt board.old.accepted.program board.old.position.at.time line.now node }
@@ -141,7 +141,7 @@ pub fn judge_firing(
     line: &[u8],
     time: Option<i64>,
     node: u32,
-    desk: &mut Desk,
+    desk: &mut LineDesk,
 ) -> Result<Judged, AllocError>
     requires words { AreWords board.old.accepted.program }
     requires begins { BeginsAsFiring board.old.accepted.program line.now time node }

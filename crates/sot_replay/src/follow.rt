@@ -5,8 +5,8 @@ ghost use Rattle.sot_trace.specs.Words.{AreWords};
 ghost use Rattle.sot_replay.specs.Replays.{MatchFail};
 ghost use Rattle.sot_replay.specs.Follows.{HasEnded, AreRefused};
 
-use crate::counts::{Counts, counted};
-use crate::desk::Desk;
+use crate::counts::{ReplayCounts, counted};
+use crate::desk::LineDesk;
 use crate::fail::ReplayFail;
 use crate::judge::judge;
 use crate::judged::Judged;
@@ -18,7 +18,7 @@ use sot_trace_lines::Lines;
 pub fn follow(
     lines: &mut Lines<'_>,
     board: &mut Board<'_>,
-    desk: &mut Desk,
+    desk: &mut LineDesk,
 ) -> Result<(), ReplayFail>
     requires none { board.old.entries ≡ [] }
     requires words { AreWords board.old.accepted.program }
@@ -27,7 +27,7 @@ pub fn follow(
     ensures refused { IfErr result (λ fail.
         MatchFail fail (λ _. ⊥) (AreRefused board.old lines.old.to_come lines.old.number)) }
 {
-    let mut counts = Counts {
+    let mut counts = ReplayCounts {
         ticks: 0,
         refused: 0,
     };

@@ -6,9 +6,9 @@ ghost use Rattle.sot_trace.specs.Words.{AreWords};
 ghost use Rattle.sot_trace_lines.specs.Shown.{AnswersLine};
 ghost use Rattle.sot_replay.specs.Judges.{IsJudged};
 
-use crate::counts::Counts;
+use crate::counts::ReplayCounts;
 use crate::decision::judge_decision;
-use crate::desk::Desk;
+use crate::desk::LineDesk;
 use crate::end::judge_end;
 use crate::fail::LineKind;
 use crate::firing::judge_firing;
@@ -16,7 +16,7 @@ use crate::input::judge_input;
 use crate::judged::Judged;
 use crate::tick::judge_tick;
 use sot_board::Board;
-use sot_trace_lines::{Front, Line};
+use sot_trace_lines::{Line, LineFront};
 use std::alloc::AllocError;
 
 // Judges a line that was read to its end.
@@ -24,8 +24,8 @@ fn judge_whole(
     board: &mut Board<'_>,
     line: &[u8],
     read: Line,
-    counts: Counts,
-    desk: &mut Desk,
+    counts: ReplayCounts,
+    desk: &mut LineDesk,
 ) -> Result<Judged, AllocError>
     requires words { AreWords board.old.accepted.program }
     requires read { AnswersLine board.old.accepted.program line.now desk.old.numbers.items
@@ -52,8 +52,8 @@ fn judge_whole(
 pub fn judge(
     board: &mut Board<'_>,
     line: &[u8],
-    counts: Counts,
-    desk: &mut Desk,
+    counts: ReplayCounts,
+    desk: &mut LineDesk,
 ) -> Result<Judged, AllocError>
     requires words { AreWords board.old.accepted.program }
     requires ticks { counts.ticks ≡ sum_by ticks_in board.old.entries }
@@ -62,9 +62,11 @@ pub fn judge(
     ensures { IfOk result (IsJudged board.old board.new line.now) }
 {
     match desk.read_front(board.typed(), line) {
-        Ok(Some(Front::Firing { time, node })) => { judge_firing(board, line, time, node, desk) }
-        Ok(Some(Front::Tick { time })) => judge_tick(board, line, time, desk),
-        Ok(Some(Front::Whole(read))) => { judge_whole(board, line, read, counts, desk) }
+        Ok(Some(LineFront::Firing { time, node })) => {
+            judge_firing(board, line, time, node, desk)
+        }
+        Ok(Some(LineFront::Tick { time })) => judge_tick(board, line, time, desk),
+        Ok(Some(LineFront::Whole(read))) => { judge_whole(board, line, read, counts, desk) }
         Ok(None) => Ok(Judged::Fails(LineKind::NotALine)),
         Err(error) => Err(error),
     }

@@ -4,7 +4,7 @@ ghost use Rattle.std.specs.Prelude.{IfOk};
 ghost use Rattle.sot_trace.specs.Words.{AreWords};
 ghost use Rattle.sot_replay.specs.Judges.{IsReadOn};
 
-use crate::desk::Desk;
+use crate::desk::LineDesk;
 use crate::fail::LineKind;
 use crate::judged::Judged;
 use sot_lang::Typed;
@@ -16,7 +16,7 @@ pub fn read_on(
     p: &Typed,
     line: &[u8],
     judged: Judged,
-    desk: &mut Desk,
+    desk: &mut LineDesk,
 ) -> Result<Judged, AllocError>
     requires { AreWords p.now }
     ensures { IfOk result (λ whole. IsReadOn p.now line.now judged whole) }

@@ -7,7 +7,7 @@ ghost use Rattle.sot_replay.specs.Judges.{IsJudged, BeginsAsTick, SpellsTicks, R
 ghost use Rattle.sot_replay.specs.Judges.{FailsTick};
 
 use crate::bounds::are_possible;
-use crate::desk::Desk;
+use crate::desk::LineDesk;
 use crate::entry_line::compare;
 use crate::fail::LineKind;
 use crate::judged::Judged;
@@ -31,7 +31,7 @@ fn is_whole(read: Line) -> bool
 
 // Whether the list holds all disturbances of a line of a tick, once it is read; none where it is
 // spelled as no line.
-fn read_whole(p: &Typed, line: &[u8], desk: &mut Desk) -> Result<Option<bool>, AllocError>
+fn read_whole(p: &Typed, line: &[u8], desk: &mut LineDesk) -> Result<Option<bool>, AllocError>
     requires words { AreWords p.now }
     requires ticks { SpellsTicks p.now line.now }
     ensures { IfOk result (λ whole. ReadsTick p.now line.now desk.new.numbers.items whole) }
@@ -49,7 +49,7 @@ fn tick_kind(
     p: &Typed,
     line: &[u8],
     kind: LineKind,
-    desk: &mut Desk,
+    desk: &mut LineDesk,
 ) -> Result<LineKind, AllocError>
     requires words { AreWords p.now }
     requires ticks { SpellsTicks p.now line.now }
@@ -71,7 +71,7 @@ pub fn judge_tick(
     board: &mut Board<'_>,
     line: &[u8],
     time: Option<i64>,
-    desk: &mut Desk,
+    desk: &mut LineDesk,
 ) -> Result<Judged, AllocError>
     requires words { AreWords board.old.accepted.program }
     requires begins { BeginsAsTick board.old.accepted.program line.now time }

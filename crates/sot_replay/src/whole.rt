@@ -8,7 +8,7 @@ ghost use Rattle.sot_trace.specs.Words.{AreWords};
 ghost use Rattle.sot_replay.specs.GoesOn.{IsTraceOf};
 ghost use Rattle.sot_replay.specs.Replays.{IsRefusedAt, MatchFail};
 
-use crate::desk::Desk;
+use crate::desk::LineDesk;
 use crate::fail::{LineKind, ReplayFail};
 use crate::follow::follow;
 use crate::opening::read_opening;
@@ -23,7 +23,7 @@ use std::alloc::Global;
 fn replay_on(
     board: &mut Board<'_>,
     lines: &mut Lines<'_>,
-    desk: &mut Desk,
+    desk: &mut LineDesk,
 ) -> Result<(), ReplayFail>
     requires none { board.old.entries ≡ [] }
     requires words { AreWords board.old.accepted.program }
@@ -79,7 +79,7 @@ pub fn replay(
         Err(OpenFail::Memory) => return Err(ReplayFail::Memory),
     };
     let mut lines = lines;
-    let mut desk = Desk::new(alloc);
+    let mut desk = LineDesk::new(alloc);
     replay_on(&mut board, &mut lines, &mut desk)?;
     Ok(board.history().len() as u32)
 }

@@ -3,7 +3,7 @@
 use Rattle.std.specs.Prelude.{◌≡◌, ℕ, List, Option, Some, None, Ok, Err}
 use Rattle.sot_sections.specs.declared.mission.Need.{Need}
 use Rattle.sot_sections.specs.Sections.{Parts, split_of}
-use Rattle.sot_tree.specs.Trees.{Program}
+use Rattle.sot_syntax_tree.specs.Trees.{Program}
 use Rattle.sot_lang.specs.Tables.{Tables}
 use Rattle.sot_lang.specs.declared.cert.Cert.{Cert}
 use Rattle.sot_lang.specs.TableRules.{MeetsTableRules}

@@ -3,9 +3,9 @@
 ghost use Rattle.std.specs.Prelude.{◌≡◌, ◌<◌, ◌+◌, ◌^◌, length, IfOk, IfErr, IfSome};
 ghost use Rattle.std.specs.Option.{option_map};
 ghost use Rattle.sot_sections.specs.Sections.{parts_of};
-ghost use Rattle.sot_tree.specs.TreeViews.{program_view};
-ghost use Rattle.sot_tree.specs.Formed.{IsFormed};
-ghost use Rattle.sot_tree.specs.Trees.{Program as Tree};
+ghost use Rattle.sot_syntax_tree.specs.TreeViews.{program_view};
+ghost use Rattle.sot_syntax_tree.specs.Formed.{IsFormed};
+ghost use Rattle.sot_syntax_tree.specs.Trees.{Program as Tree};
 ghost use Rattle.sot_lang.specs.CertRules.{FitsTables};
 ghost use Rattle.sot_flight.specs.Fits.{FitsFlight};
 ghost use Rattle.sot_report.specs.Missions.{Resolves, SaysFlight, HasFault};
@@ -20,8 +20,8 @@ use sot_parser::{ParseFail, Syntax, parse};
 use sot_ports::{Process, let_go};
 use sot_rules::{TypeFail, TypeFault};
 use sot_sections::{Need, Sections, split};
+use sot_syntax_tree::Program;
 use sot_text::Lexer;
-use sot_tree::Program;
 use sot_typing::resolve;
 use std::alloc::Global;
 

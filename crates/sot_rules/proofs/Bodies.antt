@@ -1,6 +1,6 @@
 -- The body of a node, over names that read alike.
 use Rattle.std.proofs.Common.{◌≡◌, ◌++◌, Some, ap}
-use Rattle.sot_tree.specs.Trees.{Block}
+use Rattle.sot_syntax_tree.specs.Trees.{Block}
 use Rattle.sot_rules.specs.Names.{Scope}
 use Rattle.sot_rules.specs.Tests.{block_unrolled}
 use Rattle.sot_rules.specs.Faults.{body_faults, past}

@@ -3,10 +3,10 @@ use Rattle.std.proofs.Common.{◌≡◌, ◌∙◌, ◌||◌, List, Option, ap, 
 use Rattle.std.specs.List.{list_any}
 use Rattle.std.specs.Global.{Box, Vec}
 use Rattle.sot_text.specs.declared.token.Span.{Span}
-use Rattle.sot_tree.specs.declared.operator.Func.{Func}
-use Rattle.sot_tree.specs.declared.tree.Expr.{Expr, Call}
-use Rattle.sot_tree.specs.TreeViews.{tree_view, parts_view}
-use Rattle.sot_tree.proofs.CallRows.{call_view}
+use Rattle.sot_syntax_tree.specs.declared.operator.Func.{Func}
+use Rattle.sot_syntax_tree.specs.declared.tree.Expr.{Expr, Call}
+use Rattle.sot_syntax_tree.specs.TreeViews.{tree_view, parts_view}
+use Rattle.sot_syntax_tree.proofs.CallRows.{call_view}
 use Rattle.sot_rules.specs.declared.fault.TypeFault.{TypeFault}
 use Rattle.sot_rules.specs.declared.expressions.operands.Operands.{Operands}
 use Rattle.sot_rules.specs.Sorts.{is_truthful, some_differ, call_sort, unless}

@@ -3,10 +3,10 @@ use Rattle.std.proofs.Common.{◌≡◌, ℕ, ◌<◌, nat_lt, ◌++◌, length,
 use Rattle.std.proofs.lemmas.Bool.{not_from_false, not-true}
 use Rattle.sot_lists.specs.Places.{Has}
 use Rattle.sot_text.specs.declared.token.Span.{Span}
-use Rattle.sot_tree.specs.declared.tree.Ident.{Ident}
-use Rattle.sot_tree.specs.declared.tree.Lit.{Lit}
-use Rattle.sot_tree.specs.declared.tree.Field.{Field}
-use Rattle.sot_tree.specs.Trees.{Block, Topic, Plant, Node, Module, Local, Next, Declaration, a_topic, a_plant, a_node, a_module, Program}
+use Rattle.sot_syntax_tree.specs.declared.tree.Ident.{Ident}
+use Rattle.sot_syntax_tree.specs.declared.tree.Lit.{Lit}
+use Rattle.sot_syntax_tree.specs.declared.tree.Field.{Field}
+use Rattle.sot_syntax_tree.specs.Trees.{Block, Topic, Plant, Node, Module, Local, Next, Declaration, a_topic, a_plant, a_node, a_module, Program}
 use Rattle.sot_rules.specs.declared.fault.TypeFault.{TypeFault}
 use Rattle.sot_rules.specs.declared.fault.TypeKind.{TypeKind}
 use Rattle.sot_rules.specs.declared.fault.TypeKind.TheVariants.{Unknown, Twice, ScaleDiffers, KindDiffers, ReadsAndWrites, NoModule, NextMissing}

@@ -11,8 +11,8 @@ use Rattle.std.proofs.lemmas.Map.Made.{is_some-lookup, length-from_keys, IsDisti
 use Rattle.std.proofs.lemmas.Cmp.{nat_list_eq_equiv}
 use denote.Ref.{Bor}
 use Rattle.indexmap.specs.IndexMap.{IndexMap}
-use Rattle.sot_tree.specs.declared.tree.Ident.{Ident}
-use Rattle.sot_tree.specs.Trees.{Declaration}
+use Rattle.sot_syntax_tree.specs.declared.tree.Ident.{Ident}
+use Rattle.sot_syntax_tree.specs.Trees.{Declaration}
 use Rattle.sot_rules.specs.declared.fault.TypeKind.TheVariants.{Twice}
 use Rattle.sot_rules.specs.Names.{declared_name}
 use Rattle.sot_names.specs.SeenNames.{seen_names}

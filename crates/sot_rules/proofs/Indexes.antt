@@ -6,8 +6,8 @@ use Rattle.std.proofs.lemmas.List.{length-map, map-append}
 use Rattle.std.proofs.lemmas.List.Folds.{list_any-append}
 use denote.Ref.{Bor}
 use Rattle.indexmap.specs.IndexMap.{IndexMap}
-use Rattle.sot_tree.specs.declared.tree.Ident.{Ident}
-use Rattle.sot_tree.specs.Trees.{Declaration}
+use Rattle.sot_syntax_tree.specs.declared.tree.Ident.{Ident}
+use Rattle.sot_syntax_tree.specs.Trees.{Declaration}
 use Rattle.sot_rules.specs.declared.names.scope.PartTable.{PartTable}
 use Rattle.sot_rules.specs.Scopes.{parts_of}
 use Rattle.sot_rules.specs.Names.{declared_name}

@@ -3,10 +3,10 @@ use Rattle.std.proofs.Common.{◌≡◌, ◌∙◌, ℕ, zero, suc, ◌+◌, ◌
 use Rattle.std.proofs.Common.{ap, ap₂, nat_lt, add-one}
 use Rattle.std.specs.List.{slice_get}
 use Rattle.std.proofs.lemmas.List.{length-map}
-use Rattle.sot_tree.specs.declared.tree.NextDecl.{NextDecl}
-use Rattle.sot_tree.specs.declared.tree.StateDecl.{StateDecl}
-use Rattle.sot_tree.specs.Trees.{Next, Plant, Program}
-use Rattle.sot_tree.specs.TreeViews.{next_view}
+use Rattle.sot_syntax_tree.specs.declared.tree.NextDecl.{NextDecl}
+use Rattle.sot_syntax_tree.specs.declared.tree.StateDecl.{StateDecl}
+use Rattle.sot_syntax_tree.specs.Trees.{Next, Plant, Program}
+use Rattle.sot_syntax_tree.specs.TreeViews.{next_view}
 use Rattle.sot_rules.specs.declared.fault.TypeFault.{TypeFault}
 use Rattle.sot_rules.specs.declared.fault.TypeKind.TheVariants.{NextMissing}
 use Rattle.sot_rules.specs.Names.{Thing, plant_scope, state_scope}

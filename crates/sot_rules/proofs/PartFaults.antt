@@ -2,12 +2,12 @@
 use Rattle.std.proofs.Common.{◌≡◌, List, map, Option, Bool, true, false, ◌&&◌, refl}
 use Rattle.std.specs.Prelude.{flat_map}
 use Rattle.sot_text.specs.declared.token.Span.{Span}
-use Rattle.sot_tree.specs.declared.tree.Lit.{Lit}
-use Rattle.sot_tree.specs.declared.tree.Bounds.{Bounds}
-use Rattle.sot_tree.specs.declared.tree.Scalar.{Scalar}
-use Rattle.sot_tree.specs.declared.tree.Scalar.TheVariants.{Int, Fix, Bool as BoolScalar}
-use Rattle.sot_tree.specs.declared.tree.Const.{Const}
-use Rattle.sot_tree.specs.Trees.{Area}
+use Rattle.sot_syntax_tree.specs.declared.tree.Lit.{Lit}
+use Rattle.sot_syntax_tree.specs.declared.tree.Bounds.{Bounds}
+use Rattle.sot_syntax_tree.specs.declared.tree.Scalar.{Scalar}
+use Rattle.sot_syntax_tree.specs.declared.tree.Scalar.TheVariants.{Int, Fix, Bool as BoolScalar}
+use Rattle.sot_syntax_tree.specs.declared.tree.Const.{Const}
+use Rattle.sot_syntax_tree.specs.Trees.{Area}
 use Rattle.sot_rules.specs.declared.fault.TypeKind.{TypeKind}
 use Rattle.sot_rules.specs.declared.fault.TypeKind.TheVariants.{ScaleDiffers, KindDiffers, RangeEmpty, InitOutside, RangeWide, PeriodOutside}
 use Rattle.sot_rules.specs.declared.expressions.sort.Sort.{Sort}

@@ -6,11 +6,11 @@ use Rattle.std.proofs.lemmas.List.{drop_all}
 use Rattle.std.specs.Global.{Box, Vec}
 use Rattle.std.proofs.Math.Nat.{suc-mul, div-lt_iff_lt-mul}
 use Rattle.sot_text.specs.declared.token.Span.{Span}
-use Rattle.sot_tree.specs.declared.tree.Lit.{Lit}
-use Rattle.sot_tree.specs.declared.tree.Branch.{Branch}
-use Rattle.sot_tree.specs.declared.tree.Stmt.{Stmt, If, Repeat}
-use Rattle.sot_tree.specs.TreeViews.{statement_view, block_view}
-use Rattle.sot_tree.proofs.BlockRows.{branch_view, repeat_view}
+use Rattle.sot_syntax_tree.specs.declared.tree.Lit.{Lit}
+use Rattle.sot_syntax_tree.specs.declared.tree.Branch.{Branch}
+use Rattle.sot_syntax_tree.specs.declared.tree.Stmt.{Stmt, If, Repeat}
+use Rattle.sot_syntax_tree.specs.TreeViews.{statement_view, block_view}
+use Rattle.sot_syntax_tree.proofs.BlockRows.{branch_view, repeat_view}
 use Rattle.sot_rules.specs.declared.statements.unrolled.Reached.{Reached}
 use Rattle.sot_rules.specs.declared.statements.unrolled.Reached.TheVariants.{At, Left}
 use Rattle.sot_rules.specs.Tests.{copies, unrolled, block_unrolled}

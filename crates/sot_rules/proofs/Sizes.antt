@@ -1,7 +1,7 @@
 -- Sums of sizes that pass a limit, by the room that is left.
 use Rattle.std.proofs.Common.{◌≡◌, ◌∙◌, ℕ, ◌+◌, ◌-◌, ◌<◌, ◌≤◌, nat_lt, nat_le, Bool, true, false, ◌&&◌, List, [], ◌∷◌, ◌++◌, length, get_or, drop, Option, refl}
 use Rattle.std.proofs.Common.{sym, ap, arith}
-use Rattle.sot_tree.specs.declared.tree.Ident.{Ident}
+use Rattle.sot_syntax_tree.specs.declared.tree.Ident.{Ident}
 use Rattle.sot_rules.specs.declared.fault.TypeFault.{TypeFault}
 use Rattle.sot_rules.specs.declared.fault.TypeKind.TheVariants.{TooMany}
 use Rattle.sot_rules.specs.Faults.{least, when, passes}

@@ -8,8 +8,8 @@ use Rattle.std.specs.Map.{lookup}
 use Rattle.std.proofs.lemmas.List.{append_assoc, take_all, take_more}
 use Rattle.std.proofs.lemmas.List.Elements.{filter_map-append}
 use denote.Ref.{Bor}
-use Rattle.sot_tree.specs.declared.tree.Ident.{Ident}
-use Rattle.sot_tree.specs.Trees.{Form, one, fields, Declaration, a_topic, a_plant, a_node, a_module}
+use Rattle.sot_syntax_tree.specs.declared.tree.Ident.{Ident}
+use Rattle.sot_syntax_tree.specs.Trees.{Form, one, fields, Declaration, a_topic, a_plant, a_node, a_module}
 use Rattle.sot_rules.specs.declared.expressions.sort.Sort.{Sort}
 use Rattle.sot_rules.specs.declared.names.scope.Kept.{Kept}
 use Rattle.sot_rules.specs.declared.names.scope.Things.{Things}

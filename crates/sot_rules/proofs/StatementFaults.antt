@@ -1,7 +1,7 @@
 -- A statement's list of faults has exactly the rules that fail in it.
 use Rattle.std.proofs.Common.{None}
 use Rattle.sot_text.specs.declared.token.Span.{Span}
-use Rattle.sot_tree.specs.Trees.{Statement, Block, assigned, published, branched, repeated, no_statement, statement}
+use Rattle.sot_syntax_tree.specs.Trees.{Statement, Block, assigned, published, branched, repeated, no_statement, statement}
 use Rattle.sot_rules.specs.declared.fault.TypeKind.{TypeKind}
 use Rattle.sot_rules.specs.declared.fault.TypeKind.TheVariants.{ScaleDiffers, KindDiffers, PeriodOutside}
 use Rattle.sot_rules.specs.Sorts.{is_scaled}

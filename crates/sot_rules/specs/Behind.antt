@@ -4,15 +4,15 @@ use Rattle.std.specs.Prelude.{◌≡◌, nat_lt, nat_le, Bool, true, ◌&&◌, L
 use Rattle.std.specs.List.{filter, list_all}
 use Rattle.sot_text.specs.declared.token.Span.{Span}
 use Rattle.sot_text.specs.Place.{rank}
-use Rattle.sot_tree.specs.declared.tree.Ident.{Ident}
-use Rattle.sot_tree.specs.declared.tree.Field.{Field}
-use Rattle.sot_tree.specs.declared.tree.Bounds.{Bounds}
-use Rattle.sot_tree.specs.declared.tree.Scalar.{Scalar}
-use Rattle.sot_tree.specs.declared.tree.Scalar.TheVariants.{Int, Fix, Bool as BoolScalar}
-use Rattle.sot_tree.specs.Trees.{Tree, Trees, number, truth, named, binary, rest, negated, denied}
-use Rattle.sot_tree.specs.Trees.{called, rescaled, chosen, no_tree, one_more, Statement, Block}
-use Rattle.sot_tree.specs.Trees.{assigned, published, branched, repeated, no_statement, statement}
-use Rattle.sot_tree.specs.Trees.{Local, Next}
+use Rattle.sot_syntax_tree.specs.declared.tree.Ident.{Ident}
+use Rattle.sot_syntax_tree.specs.declared.tree.Field.{Field}
+use Rattle.sot_syntax_tree.specs.declared.tree.Bounds.{Bounds}
+use Rattle.sot_syntax_tree.specs.declared.tree.Scalar.{Scalar}
+use Rattle.sot_syntax_tree.specs.declared.tree.Scalar.TheVariants.{Int, Fix, Bool as BoolScalar}
+use Rattle.sot_syntax_tree.specs.Trees.{Tree, Trees, number, truth, named, binary, rest, negated, denied}
+use Rattle.sot_syntax_tree.specs.Trees.{called, rescaled, chosen, no_tree, one_more, Statement, Block}
+use Rattle.sot_syntax_tree.specs.Trees.{assigned, published, branched, repeated, no_statement, statement}
+use Rattle.sot_syntax_tree.specs.Trees.{Local, Next}
 use Rattle.sot_rules.specs.declared.fault.TypeFault.{TypeFault}
 use Rattle.sot_rules.specs.Tests.{const_place}
 

@@ -5,21 +5,21 @@ use Rattle.std.specs.Prelude.{None, slice_get}
 use Rattle.std.specs.List.{list_any}
 use Rattle.sot_lists.specs.Places.{At, Has}
 use Rattle.sot_text.specs.declared.token.Span.{Span}
-use Rattle.sot_tree.specs.declared.operator.Op.{Op}
-use Rattle.sot_tree.specs.declared.operator.Func.{Func}
-use Rattle.sot_tree.specs.declared.tree.Ident.{Ident}
-use Rattle.sot_tree.specs.declared.tree.Lit.{Lit}
-use Rattle.sot_tree.specs.declared.tree.Bounds.{Bounds}
-use Rattle.sot_tree.specs.declared.tree.Scalar.{Scalar}
-use Rattle.sot_tree.specs.declared.tree.Scalar.TheVariants.{Int, Fix}
-use Rattle.sot_tree.specs.declared.tree.Const.{Const}
-use Rattle.sot_tree.specs.declared.tree.Field.{Field}
-use Rattle.sot_tree.specs.declared.tree.StateDecl.{StateDecl}
-use Rattle.sot_tree.specs.Trees.{Tree, Trees, named, binary, rest, negated, denied, called}
-use Rattle.sot_tree.specs.Trees.{rescaled, chosen, one_more, Statement, Block, assigned, published}
-use Rattle.sot_tree.specs.Trees.{branched, repeated, statement, Topic, Plant, Node, Module, Local}
-use Rattle.sot_tree.specs.Trees.{Next, Area, Declaration, a_topic, a_plant, a_node, a_module}
-use Rattle.sot_tree.specs.Trees.{Program}
+use Rattle.sot_syntax_tree.specs.declared.operator.Op.{Op}
+use Rattle.sot_syntax_tree.specs.declared.operator.Func.{Func}
+use Rattle.sot_syntax_tree.specs.declared.tree.Ident.{Ident}
+use Rattle.sot_syntax_tree.specs.declared.tree.Lit.{Lit}
+use Rattle.sot_syntax_tree.specs.declared.tree.Bounds.{Bounds}
+use Rattle.sot_syntax_tree.specs.declared.tree.Scalar.{Scalar}
+use Rattle.sot_syntax_tree.specs.declared.tree.Scalar.TheVariants.{Int, Fix}
+use Rattle.sot_syntax_tree.specs.declared.tree.Const.{Const}
+use Rattle.sot_syntax_tree.specs.declared.tree.Field.{Field}
+use Rattle.sot_syntax_tree.specs.declared.tree.StateDecl.{StateDecl}
+use Rattle.sot_syntax_tree.specs.Trees.{Tree, Trees, named, binary, rest, negated, denied, called}
+use Rattle.sot_syntax_tree.specs.Trees.{rescaled, chosen, one_more, Statement, Block, assigned, published}
+use Rattle.sot_syntax_tree.specs.Trees.{branched, repeated, statement, Topic, Plant, Node, Module, Local}
+use Rattle.sot_syntax_tree.specs.Trees.{Next, Area, Declaration, a_topic, a_plant, a_node, a_module}
+use Rattle.sot_syntax_tree.specs.Trees.{Program}
 use Rattle.sot_rules.specs.declared.fault.TypeKind.{TypeKind}
 use Rattle.sot_rules.specs.declared.fault.TypeKind.TheVariants.{Unknown, Twice, ScaleDiffers}
 use Rattle.sot_rules.specs.declared.fault.TypeKind.TheVariants.{KindDiffers, RangeEmpty}

@@ -1,13 +1,13 @@
 -- Worked programs that break a rule of typing. Each stands on one line, and each place was read
 -- off another program.
 use Rattle.std.specs.Prelude.{pos, true, false, [], ◌∷◌, Some, None, codes}
-use Rattle.sot_tree.specs.declared.operator.Op.TheVariants.{Equal}
-use Rattle.sot_tree.specs.declared.tree.Scalar.TheVariants.{Int, Fix, Bool as BoolScalar}
-use Rattle.sot_tree.specs.declared.tree.Const.TheVariants.{Number, Truth}
-use Rattle.sot_tree.specs.Trees.{number, truth, named, binary}
-use Rattle.sot_tree.specs.Trees.{chosen, published, repeated}
-use Rattle.sot_tree.specs.Trees.{no_statement, statement, one, fields, one_value, values, a_topic}
-use Rattle.sot_tree.specs.Trees.{a_plant, a_node, a_module, Program}
+use Rattle.sot_syntax_tree.specs.declared.operator.Op.TheVariants.{Equal}
+use Rattle.sot_syntax_tree.specs.declared.tree.Scalar.TheVariants.{Int, Fix, Bool as BoolScalar}
+use Rattle.sot_syntax_tree.specs.declared.tree.Const.TheVariants.{Number, Truth}
+use Rattle.sot_syntax_tree.specs.Trees.{number, truth, named, binary}
+use Rattle.sot_syntax_tree.specs.Trees.{chosen, published, repeated}
+use Rattle.sot_syntax_tree.specs.Trees.{no_statement, statement, one, fields, one_value, values, a_topic}
+use Rattle.sot_syntax_tree.specs.Trees.{a_plant, a_node, a_module, Program}
 use Rattle.sot_rules.specs.ExampleParts.{at, word, decimal, whole, range}
 
 -- A name that is declared nowhere.

@@ -2,7 +2,7 @@
 use Rattle.std.specs.Prelude.{◌≡◌, ℕ, ◌<◌, ◌≤◌, ◌⊎◌}
 use Rattle.sot_text.specs.declared.token.Span.{Span}
 use Rattle.sot_text.specs.Place.{rank}
-use Rattle.sot_tree.specs.Trees.{Program}
+use Rattle.sot_syntax_tree.specs.Trees.{Program}
 use Rattle.sot_rules.specs.declared.fault.TypeFault.{TypeFault}
 use Rattle.sot_rules.specs.declared.fault.TypeKind.{TypeKind}
 use Rattle.sot_rules.specs.declared.fault.TypeKind.TheVariants.{Unknown, Twice, ScaleDiffers}

@@ -1,8 +1,8 @@
 -- The faults of a declaration in groups, each in the order of its list of faults.
 use Rattle.std.specs.Prelude.{List, [], ◌∷◌, ◌++◌, not, map, flat_map}
-use Rattle.sot_tree.specs.declared.tree.Ident.{Ident}
-use Rattle.sot_tree.specs.declared.tree.StateDecl.{StateDecl}
-use Rattle.sot_tree.specs.Trees.{Form, Topic, Plant, Node, Module, Program}
+use Rattle.sot_syntax_tree.specs.declared.tree.Ident.{Ident}
+use Rattle.sot_syntax_tree.specs.declared.tree.StateDecl.{StateDecl}
+use Rattle.sot_syntax_tree.specs.Trees.{Form, Topic, Plant, Node, Module, Program}
 use Rattle.sot_rules.specs.declared.fault.TypeFault.{TypeFault}
 use Rattle.sot_rules.specs.declared.fault.TypeKind.TheVariants.{Unknown, Twice, KindDiffers}
 use Rattle.sot_rules.specs.Names.{meaning, is_node, is_external}

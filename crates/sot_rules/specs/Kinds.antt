@@ -1,7 +1,7 @@
 -- The declarations of one kind.
 use Rattle.std.specs.Prelude.{Option}
-use Rattle.sot_tree.specs.declared.tree.Ident.{Ident}
-use Rattle.sot_tree.specs.Trees.{Declaration}
+use Rattle.sot_syntax_tree.specs.declared.tree.Ident.{Ident}
+use Rattle.sot_syntax_tree.specs.Trees.{Declaration}
 use Rattle.sot_rules.specs.declared.declarations.kind.DeclKind.{DeclKind}
 use Rattle.sot_rules.specs.declared.declarations.kind.DeclKind.TheVariants as kinds
 use Rattle.sot_rules.specs.Tests.{topic_name, plant_name, node_name, module_name}

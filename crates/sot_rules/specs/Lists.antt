@@ -2,7 +2,7 @@
 use Rattle.std.specs.Prelude.{◌≡◌, ℕ, ◌+◌, ◌<◌, ◌≤◌, true, List, map, take, sum_by}
 use Rattle.sot_lists.specs.Places.{At}
 use Rattle.sot_text.specs.declared.token.Span.{Span}
-use Rattle.sot_tree.specs.declared.tree.Ident.{Ident}
+use Rattle.sot_syntax_tree.specs.declared.tree.Ident.{Ident}
 pub use Rattle.sot_names.specs.Names.{are_same, is_among}
 
 -- here stands a name of the list that stands in it before

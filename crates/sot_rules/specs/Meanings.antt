@@ -1,9 +1,9 @@
 -- What a name means, as the code holds it.
 use Rattle.std.specs.Prelude.{ℕ, Bool, true, false, Option, option_map}
 use denote.Ref.{Bor}
-use Rattle.sot_tree.specs.declared.tree.Decl.{Decl}
-use Rattle.sot_tree.specs.Trees.{Declaration}
-use Rattle.sot_tree.specs.TreeViews.{declaration_view}
+use Rattle.sot_syntax_tree.specs.declared.tree.Decl.{Decl}
+use Rattle.sot_syntax_tree.specs.Trees.{Declaration}
+use Rattle.sot_syntax_tree.specs.TreeViews.{declaration_view}
 use Rattle.sot_rules.specs.Tests.{topic_size, read_size}
 
 abbrev pub meant : Option (Bor Decl) → Option Declaration

@@ -1,7 +1,7 @@
 -- What a name adds to a list of names, by the kind of list.
 use Rattle.std.specs.Prelude.{List, Option, filter_map}
-use Rattle.sot_tree.specs.declared.tree.Ident.{Ident}
-use Rattle.sot_tree.specs.Trees.{Declaration, Program}
+use Rattle.sot_syntax_tree.specs.declared.tree.Ident.{Ident}
+use Rattle.sot_syntax_tree.specs.Trees.{Declaration, Program}
 use Rattle.sot_rules.specs.declared.names.gather.NameList.{NameList}
 use Rattle.sot_rules.specs.declared.names.gather.NameList.TheVariants.{Topics, Plants, Both}
 use Rattle.sot_rules.specs.Names.{Thing, meaning, topic_meant, plant_meant, either_meant}

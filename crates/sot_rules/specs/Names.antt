@@ -3,11 +3,11 @@ use Rattle.std.specs.Prelude.{ℕ, Bool, true, false, List, ◌++◌, map, Optio
 use Rattle.std.specs.Prelude.{filter_map, is_none}
 use Rattle.std.specs.Str.{bytes_eq}
 use Rattle.sot_text.specs.declared.token.Span.{Span}
-use Rattle.sot_tree.specs.declared.tree.Ident.{Ident}
-use Rattle.sot_tree.specs.declared.tree.Field.{Field}
-use Rattle.sot_tree.specs.declared.tree.StateDecl.{StateDecl}
-use Rattle.sot_tree.specs.Trees.{Form, one, fields, Topic, Plant, Node, Local, Declaration, a_topic}
-use Rattle.sot_tree.specs.Trees.{a_plant, a_node, Program}
+use Rattle.sot_syntax_tree.specs.declared.tree.Ident.{Ident}
+use Rattle.sot_syntax_tree.specs.declared.tree.Field.{Field}
+use Rattle.sot_syntax_tree.specs.declared.tree.StateDecl.{StateDecl}
+use Rattle.sot_syntax_tree.specs.Trees.{Form, one, fields, Topic, Plant, Node, Local, Declaration, a_topic}
+use Rattle.sot_syntax_tree.specs.Trees.{a_plant, a_node, Program}
 pub use Rattle.sot_names.specs.Names.{declared_name}
 use Rattle.sot_rules.specs.declared.expressions.sort.Sort.{Sort}
 use Rattle.sot_rules.specs.declared.expressions.sort.Sort.TheVariants.{Anything}

@@ -1,6 +1,6 @@
 -- The faults of a plant's `next` clauses.
 use Rattle.std.specs.Prelude.{List, ◌++◌, None, flat_map, length, nat_lt}
-use Rattle.sot_tree.specs.Trees.{Next, Plant, Program}
+use Rattle.sot_syntax_tree.specs.Trees.{Next, Plant, Program}
 use Rattle.sot_rules.specs.declared.fault.TypeFault.{TypeFault}
 use Rattle.sot_rules.specs.declared.fault.TypeKind.TheVariants.{NextMissing}
 use Rattle.sot_rules.specs.Names.{Thing, reading}

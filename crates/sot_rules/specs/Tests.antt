@@ -4,18 +4,18 @@ use Rattle.std.specs.Prelude.{false, not, ◌&&◌, ◌||◌, List, [], ◌∷�
 use Rattle.std.specs.Prelude.{Some, None, filter_map, nat_abs}
 use Rattle.std.specs.List.{list_any}
 use Rattle.sot_text.specs.declared.token.Span.{Span}
-use Rattle.sot_tree.specs.declared.tree.Ident.{Ident}
-use Rattle.sot_tree.specs.declared.tree.Lit.{Lit}
-use Rattle.sot_tree.specs.declared.tree.Bounds.{Bounds}
-use Rattle.sot_tree.specs.declared.tree.Scalar.{Scalar}
-use Rattle.sot_tree.specs.declared.tree.Scalar.TheVariants.{Int, Fix}
-use Rattle.sot_tree.specs.declared.tree.Const.{Const}
-use Rattle.sot_tree.specs.declared.tree.Const.TheVariants.{Number, Truth}
-use Rattle.sot_tree.specs.declared.tree.StateDecl.{StateDecl}
-use Rattle.sot_tree.specs.Trees.{Form, one, fields, Start, one_value, values, Topic, Plant, Node}
-use Rattle.sot_tree.specs.Trees.{Area, Declaration, a_topic, a_plant, a_node, a_module, Program}
-use Rattle.sot_tree.specs.Trees.{Statement, Block, assigned, published, branched, repeated}
-use Rattle.sot_tree.specs.Trees.{no_statement, statement}
+use Rattle.sot_syntax_tree.specs.declared.tree.Ident.{Ident}
+use Rattle.sot_syntax_tree.specs.declared.tree.Lit.{Lit}
+use Rattle.sot_syntax_tree.specs.declared.tree.Bounds.{Bounds}
+use Rattle.sot_syntax_tree.specs.declared.tree.Scalar.{Scalar}
+use Rattle.sot_syntax_tree.specs.declared.tree.Scalar.TheVariants.{Int, Fix}
+use Rattle.sot_syntax_tree.specs.declared.tree.Const.{Const}
+use Rattle.sot_syntax_tree.specs.declared.tree.Const.TheVariants.{Number, Truth}
+use Rattle.sot_syntax_tree.specs.declared.tree.StateDecl.{StateDecl}
+use Rattle.sot_syntax_tree.specs.Trees.{Form, one, fields, Start, one_value, values, Topic, Plant, Node}
+use Rattle.sot_syntax_tree.specs.Trees.{Area, Declaration, a_topic, a_plant, a_node, a_module, Program}
+use Rattle.sot_syntax_tree.specs.Trees.{Statement, Block, assigned, published, branched, repeated}
+use Rattle.sot_syntax_tree.specs.Trees.{no_statement, statement}
 use Rattle.sot_rules.specs.declared.expressions.sort.Sort.{Sort}
 use Rattle.sot_rules.specs.declared.expressions.sort.Sort.TheVariants.{Scaled, Anything}
 use Rattle.sot_rules.specs.Sorts.{scalar_sort, state_sort}

@@ -1,7 +1,7 @@
 //! The list of a program's faults, and the rules that fail.
 ghost use Rattle.std.specs.Prelude.{◌≡◌, ◌↔◌, Some, None};
 ghost use Rattle.sot_lists.specs.Places.{Has};
-ghost use Rattle.sot_tree.specs.Trees.{Program};
+ghost use Rattle.sot_syntax_tree.specs.Trees.{Program};
 ghost use Rattle.sot_rules.specs.declared.fault.TypeFault.{TypeFault};
 ghost use Rattle.sot_rules.specs.Fails.{Fails};
 ghost use Rattle.sot_rules.specs.First.{IsFirstFault, IsFaultless};

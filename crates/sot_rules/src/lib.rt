@@ -13,7 +13,7 @@ mod statements;
 pub use facts::{faultless_programs_are_as_stated, first_faults_are_as_stated};
 pub use fault::{TypeFail, TypeFault, TypeKind};
 pub use laws::faults_are_the_failing_rules;
-pub use program::{first_fault, first_fault_in};
+pub use program::first_fault;
 
 // what the tables of a program are made with
 pub use declarations::range::scalar_sort;

@@ -1,6 +1,6 @@
 //! The first fault of a program.
 ghost use Rattle.std.specs.Prelude.{◌≡◌, [], Some, None, map, flat_map, OnOk, IfOk};
-ghost use Rattle.sot_tree.specs.TreeViews.{declaration_view, program_view};
+ghost use Rattle.sot_syntax_tree.specs.TreeViews.{declaration_view, program_view};
 ghost use Rattle.sot_rules.specs.declared.fault.TypeFault.{TypeFault};
 ghost use Rattle.sot_rules.specs.First.{IsFirstFault, IsFaultless};
 ghost use Rattle.sot_rules.specs.Faults.{least, declaration_faults, faults, repeats};
@@ -15,7 +15,7 @@ use crate::declarations::topic::note_topic;
 use crate::fault::TypeFault;
 use crate::names::index::Index;
 use crate::names::repeats::note_repeats;
-use sot_tree::{Decl, Program};
+use sot_syntax_tree::{Decl, Program};
 use std::alloc::{AllocError, Global};
 
 fn note_declaration<'p>(
@@ -89,8 +89,10 @@ fn note_program(
     Ok(())
 }
 
-/// As `first_fault`, of the program of an index, for callers that go on to look names up in it.
-pub fn first_fault_in(alloc: Global, index: &Index) -> Result<Option<TypeFault>, AllocError>
+/// The first rule of typing that the program of an index breaks, by its place and then by its
+/// number, or nothing where it breaks none. It takes time that grows with the length of the program
+/// times the depth of its loops.
+pub fn first_fault(alloc: Global, index: &Index) -> Result<Option<TypeFault>, AllocError>
     requires { IsIndex index.now }
     ensures faultless { IfOk result (λ f. f ≡ None → IsFaultless (program_in index.now)) }
     ensures first { IfOk result
@@ -99,18 +101,4 @@ pub fn first_fault_in(alloc: Global, index: &Index) -> Result<Option<TypeFault>,
     let mut first = None;
     note_program(alloc, index, &mut first)?;
     Ok(first)
-}
-
-/// The first rule of typing that a program breaks, by its place and then by its number, or nothing
-/// where it breaks none. It takes memory for tables of the names, and time that grows with the
-/// length of the program times the depth of its loops.
-pub fn first_fault(alloc: Global, program: &Program) -> Result<Option<TypeFault>, AllocError>
-    ensures faultless { IfOk result (λ f. f ≡ None → IsFaultless (program_view program.now)) }
-    ensures first { IfOk result
-        (λ f. (g : TypeFault) → f ≡ Some g → IsFirstFault (program_view program.now) g) }
-{
-    let index = Index::of(alloc, program)?;
-    let found = first_fault_in(alloc, &index);
-    drop(index);
-    found
 }

@@ -1,4 +1,4 @@
--- Counts and sums, entry by entry.
+-- FlightCounts and sums, entry by entry.
 use Rattle.std.proofs.Common.{◌≡◌, ℕ, ◌+◌, ℤ, ◌+ℤ◌, List, drop, ap, refl}
 use Rattle.sot_lists.specs.Places.{At}
 use Rattle.sot_lists.proofs.Places.{drop_at}

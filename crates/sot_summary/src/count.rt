@@ -14,7 +14,7 @@ use sot_world::History;
 
 /// The counts of all entries.
 #[derive(Clone, Copy)]
-pub struct Counts {
+pub struct FlightCounts {
     pub firings: usize,
     pub ticks: usize,
     pub refused: u128,
@@ -22,8 +22,8 @@ pub struct Counts {
     pub sum: i128,
 }
 
-/// Counts a history in one pass.
-pub fn count_entries(p: &Typed, history: &History) -> Counts
+/// FlightCounts a history in one pass.
+pub fn count_entries(p: &Typed, history: &History) -> FlightCounts
     requires fits { FitsHistory p.now history.now.entries }
     requires few { sum_by ticks_in history.now.entries ≤ 100000 }
     ensures firings { result.firings ≡ sum_by firings_in history.now.entries }
@@ -32,7 +32,7 @@ pub fn count_entries(p: &Typed, history: &History) -> Counts
     ensures outside { result.outside ≡ sum_by (outside_in p.now) history.now.entries }
     ensures sum { result.sum ≡ states_sum history.now.entries }
 {
-    let mut counts = Counts {
+    let mut counts = FlightCounts {
         firings: 0,
         ticks: 0,
         refused: 0,

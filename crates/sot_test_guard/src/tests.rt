@@ -10,7 +10,7 @@ mod said;
 mod spools;
 mod talks;
 
-use sot_law_one_trace::names_are_words;
+use sot_law_trace_unique::names_are_words;
 use sot_ports::Process;
 use sot_report::{Loaded, load};
 use sot_sections::Need;

@@ -15,7 +15,7 @@ ghost use Rattle.sot_flight.specs.Fits.{FitsFlight};
 ghost use Rattle.sot_trace.specs.Words.{AreWords};
 
 use sot_compose::check_all;
-use sot_law_one_trace::names_are_words;
+use sot_law_trace_unique::names_are_words;
 use sot_ports::Process;
 use sot_replay::{ReplayFail, replay};
 use sot_report::{Loaded, load};

@@ -9,7 +9,7 @@ use Rattle.sot_lang.specs.Tables.{Tables}
 use Rattle.sot_lang.specs.OwnerNames.{width_of}
 use Rattle.sot_lists.proofs.ShortLists.{at_one, at_two}
 use Rattle.sot_world.specs.Opens.{AreStarts}
-use Rattle.sot_test_missions.specs.Double.{IsDouble, stops}
+use Rattle.sot_worked_missions.specs.Double.{IsDouble, stops}
 use Rattle.sot_test_runs.specs.Entries.{HasWidths}
 
 module _ (low high : ℤ) (p : Tables) (h : IsDouble low high p) where

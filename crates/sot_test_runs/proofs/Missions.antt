@@ -10,8 +10,8 @@ use Rattle.sot_lang.specs.declared.term.Term.{Term}
 use Rattle.sot_lang.specs.Tables.{Tables}
 use Rattle.sot_lang.specs.OwnerNames.{width_of}
 use Rattle.sot_lists.proofs.ShortLists.{at_one, at_two}
-use Rattle.sot_test_missions.specs.Line.{IsLine, nav}
-use Rattle.sot_test_missions.specs.Divide.{IsDivide}
+use Rattle.sot_worked_missions.specs.Line.{IsLine, nav}
+use Rattle.sot_worked_missions.specs.Divide.{IsDivide}
 use Rattle.sot_world.specs.Opens.{AreStarts}
 use Rattle.sot_test_runs.specs.Entries.{HasWidths}
 

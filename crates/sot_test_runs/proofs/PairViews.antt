@@ -9,8 +9,8 @@ use Rattle.sot_lang.specs.Tables.{Tables}
 use Rattle.sot_lang.specs.OwnerNames.{width_of}
 use Rattle.sot_lists.proofs.ShortLists.{at_more, at_two}
 use Rattle.sot_world.specs.Opens.{AreStarts}
-use Rattle.sot_test_missions.specs.Line.{nav}
-use Rattle.sot_test_missions.specs.Pair.{IsPair, fly}
+use Rattle.sot_worked_missions.specs.Line.{nav}
+use Rattle.sot_worked_missions.specs.Pair.{IsPair, fly}
 use Rattle.sot_test_runs.specs.Entries.{HasWidths}
 
 module _ (low : ℤ) (p : Tables) (h : IsPair low p) where

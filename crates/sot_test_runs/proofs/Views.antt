@@ -3,7 +3,7 @@ use Rattle.std.proofs.Common.{◌≡◌, ℤ, List, [], ◌∷◌, length, ap, �
 use Rattle.sot_lang.specs.declared.term.Term.{Term}
 use Rattle.sot_lang.specs.Tables.{Tables}
 use Rattle.sot_world.specs.Opens.{AreStarts}
-use Rattle.sot_test_missions.specs.Line.{IsLine}
+use Rattle.sot_worked_missions.specs.Line.{IsLine}
 use Rattle.sot_test_runs.proofs.Missions.{line_starts}
 
 module _ (N : Term → Type 0) (p q : Tables) (same : q ≡ p) (h : IsLine N p) where

@@ -5,8 +5,8 @@ use Rattle.sot_lang.specs.declared.term.Term.{Term}
 use Rattle.sot_lang.specs.Tables.{Tables}
 use Rattle.sot_lang.specs.OwnerNames.{seen_width}
 use Rattle.sot_code.specs.Recorded.{MayRun, MayTickPlant}
-use Rattle.sot_test_missions.specs.Divide.{IsDivide}
-use Rattle.sot_test_missions.specs.Line.{IsLine}
+use Rattle.sot_worked_missions.specs.Divide.{IsDivide}
+use Rattle.sot_worked_missions.specs.Line.{IsLine}
 
 pub calc_may_run : (D : Term → Type 0) (p : Tables) (n : ℤ) → IsDivide D p → MayRun p 0 (n ∷ []) []
 calc_may_run D p n h = record {

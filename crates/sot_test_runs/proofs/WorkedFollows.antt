@@ -10,7 +10,7 @@ use Rattle.sot_lang.specs.Tables.{Tables}
 use Rattle.sot_lang.specs.OwnerNames.{width_of, seen_width}
 use Rattle.sot_iv.specs.PlantTicks.{MayTickBox}
 use Rattle.sot_tube.specs.Calls.{MayFollow}
-use Rattle.sot_test_missions.specs.Line.{IsLine, nav}
+use Rattle.sot_worked_missions.specs.Line.{IsLine, nav}
 use Rattle.sot_test_runs.proofs.WorkedVerdicts.{line_boxes}
 
 module _ (N : Term → Type 0) (p : Tables) (h : IsLine N p) where

@@ -7,8 +7,8 @@ use Rattle.sot_lang.specs.declared.tables.ModuleInfo.{ModuleInfo}
 use Rattle.sot_lang.specs.declared.term.Term.{Term}
 use Rattle.sot_lang.specs.Tables.{Tables}
 use Rattle.sot_traps.specs.Verdict.{HaveSafeBoxes, IsCodedNode}
-use Rattle.sot_test_missions.specs.Divide.{IsDivide}
-use Rattle.sot_test_missions.specs.Line.{IsLine, nav}
+use Rattle.sot_worked_missions.specs.Divide.{IsDivide}
+use Rattle.sot_worked_missions.specs.Line.{IsLine, nav}
 
 pub divide_boxes : (D : Term → Type 0) (p : Tables) → IsDivide D p → HaveSafeBoxes p
 divide_boxes D p h m a at none = none-some a (subst (λ (l : List ModuleInfo). At l m a) h.modules at)

@@ -1,7 +1,7 @@
 -- What a guest of the tests has kept.
 use Rattle.std.specs.Prelude.{Bool, List, map, Option, Some, None, if◌then◌else◌}
 use Rattle.sot_board.specs.Views.{viewed_numbers}
-use Rattle.sot_node_worker.specs.Askings.{Asking, asking}
+use Rattle.sot_fly_worker.specs.Askings.{Asking, asking}
 use Rattle.sot_test_workers.specs.declared.keeper.Kept.{Kept}
 
 abbrev pub asking_of : Kept → Asking

@@ -4,8 +4,8 @@ ghost use Rattle.std.specs.Prelude.{◌≡◌, [], false};
 ghost use Rattle.sot_test_workers.specs.Kept.{told_of};
 
 use sot_board::View;
+use sot_fly_worker::Controller;
 use sot_lang::Draft;
-use sot_node_worker::Controller;
 use std::alloc::Global;
 use std::mem::swap;
 

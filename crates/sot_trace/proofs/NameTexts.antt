@@ -9,7 +9,7 @@ use Rattle.std.proofs.lemmas.List.Folds.{length-prefix_len}
 use Rattle.sot_text.specs.declared.token.Kind.TheVariants.{Name}
 use Rattle.sot_text.specs.Lexeme.{begins_word, is_in_word, word_len, decimals_of, mantissa_of, number_len, sign_len}
 use Rattle.sot_text.proofs.Fronts.{front_word, front_number, front_sign, word_takes, sign_takes}
-use Rattle.sot_tree.proofs.Names.{number_no_name}
+use Rattle.sot_syntax_tree.proofs.Names.{number_no_name}
 use Rattle.sot_lang.specs.declared.tables.TopicInfo.{TopicInfo}
 use Rattle.sot_lang.specs.declared.tables.ScalarInfo.{ScalarInfo}
 use Rattle.sot_lang.specs.declared.tables.NodeInfo.{NodeInfo}

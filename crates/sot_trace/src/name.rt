@@ -6,8 +6,8 @@ ghost use Rattle.sot_trace.specs.Names.{field_part};
 ghost use Rattle.sot_trace.specs.Names.{scalar_name};
 
 use sot_lang::Typed;
+use sot_syntax_tree::Name;
 use sot_text_output::Out;
-use sot_tree::Name;
 
 /// A name.
 pub fn put_name<O: Out>(out: &mut O, name: &Name)

@@ -7,8 +7,8 @@ use Rattle.sot_lang.specs.TableRules.{MeetsTableRules}
 use Rattle.sot_trace.specs.Lines.{writes_of, firing_word}
 use Rattle.sot_trace.specs.Words.{AreWords}
 use Rattle.sot_trace_lines.specs.declared.line.Line.{Line}
-use Rattle.sot_trace_lines.specs.declared.line.Front.{Front}
-use Rattle.sot_trace_lines.specs.declared.line.Front.TheVariants.{Firing, Tick, Whole}
+use Rattle.sot_trace_lines.specs.declared.line.LineFront.{LineFront}
+use Rattle.sot_trace_lines.specs.declared.line.LineFront.TheVariants.{Firing, Tick, Whole}
 use Rattle.sot_trace_lines.specs.Spelled.{Spelled, FireLine, TickLine}
 use Rattle.sot_trace_lines.specs.Shown.{BeginsFiring, BeginsTick, AnswersFront}
 use Rattle.sot_trace_lines.specs.Pieces.{◌>>=◌, behind, at_end, numeral_at}
@@ -55,7 +55,7 @@ whole_shows p list (Some l) o shows = shows
 pub end_spelled : (p : Tables) (line rest : List ℕ) → behind (codes "end ") line ≡ Some rest → spelled_at p line ≡ counts_at rest
 end_spelled p line rest is = ap (λ o. option_map_or counts_at o (numeral_at line >>= λ t. event_at p t.0 t.1)) is
 
-front_answers : (p : Tables) (line : List ℕ) (list : List ℤ) (f : Option Front) → MeetsTableRules p → AreWords p → ShowsFront p list f (spelled_at p line)
+front_answers : (p : Tables) (line : List ℕ) (list : List ℤ) (f : Option LineFront) → MeetsTableRules p → AreWords p → ShowsFront p list f (spelled_at p line)
     → AnswersFront p line list f
 front_answers p line list None rules words shows = answers p line list None (spelled_at p line) rules words refl shows
 front_answers p line list (Some (Firing time node)) rules words (there, begins) = (there, λ s spelled. begins s (read_spelled p rules words line s spelled))
@@ -63,7 +63,7 @@ front_answers p line list (Some (Tick time)) rules words begins = λ s spelled. 
 front_answers p line list (Some (Whole l)) rules words shows = answers p line list (Some l) (spelled_at p line) rules words refl shows
 
 -- what is read is the answer
-pub front_answered : {E : Type 0} (p : Tables) (line : List ℕ) (list : List ℤ) (r : Result (Option Front) E) → MeetsTableRules p → AreWords p
+pub front_answered : {E : Type 0} (p : Tables) (line : List ℕ) (list : List ℤ) (r : Result (Option LineFront) E) → MeetsTableRules p → AreWords p
     → IfOk r (λ f. ShowsFront p list f (spelled_at p line)) → IfOk r (λ f. AnswersFront p line list f)
 front_answered p line list (Ok f) rules words shows = front_answers p line list f rules words shows
 front_answered p line list (Err e) rules words shows = shows

@@ -3,8 +3,8 @@ use Rattle.std.specs.Prelude.{ℕ, suc, ◌<◌, ◌≡◌, length, ◌^◌, ℤ
 use Rattle.std.specs.Prelude.{Bool, false, nat_lt, if◌then◌else◌, Option, Some, None, slice_set}
 use Rattle.sot_lang.specs.Tables.{Tables}
 use Rattle.sot_trace_lines.specs.declared.line.Line.{Line}
-use Rattle.sot_trace_lines.specs.declared.line.Front.{Front}
-use Rattle.sot_trace_lines.specs.declared.line.Front.TheVariants.{Firing, Tick, Whole}
+use Rattle.sot_trace_lines.specs.declared.line.LineFront.{LineFront}
+use Rattle.sot_trace_lines.specs.declared.line.LineFront.TheVariants.{Firing, Tick, Whole}
 use Rattle.sot_trace_lines.specs.Spelled.{Spelled}
 use Rattle.sot_trace_lines.specs.Shown.{Shows, BeginsFiring, BeginsTick}
 
@@ -89,7 +89,7 @@ ShowsRead list (Some l) None = ⊥
 ShowsRead list None (Some s) = ⊥
 
 -- what is looked at of the front of a line, of what was read of the line, if anything was
-abbrev pub ShowsFront : Tables → List ℤ → Option Front → Option Spelled → Type 0
+abbrev pub ShowsFront : Tables → List ℤ → Option LineFront → Option Spelled → Type 0
 ShowsFront p list None o = ShowsRead list None o
 ShowsFront p list (Some (Firing time node)) o =
     (node < length p.nodes) × ((s : Spelled) → o ≡ Some s → BeginsFiring time node s)

@@ -11,8 +11,8 @@ use Rattle.sot_trace_lines.specs.Spelled.{Spelled, IsSpelled, InputLine, FireLin
 use Rattle.sot_trace_lines.specs.Spelled.{TickLine, EndLine}
 use Rattle.sot_trace_lines.specs.declared.line.Line.{Line}
 use Rattle.sot_trace_lines.specs.declared.line.Line.TheVariants.{Input, Fire, Decide, Tick, End}
-use Rattle.sot_trace_lines.specs.declared.line.Front.{Front}
-use Rattle.sot_trace_lines.specs.declared.line.Front.TheVariants as fronts
+use Rattle.sot_trace_lines.specs.declared.line.LineFront.{LineFront}
+use Rattle.sot_trace_lines.specs.declared.line.LineFront.TheVariants as fronts
 
 -- the number, or nothing where it has more than 64 bits
 abbrev pub Reads : Option ℤ → ℤ → Type 0
@@ -65,7 +65,7 @@ BeginsTick time s =
 
 -- the answer for the front of a line: what it spells can only be such a firing or such a tick; or
 -- what is looked at of the whole line
-abbrev pub AnswersFront : Tables → List ℕ → List ℤ → Option Front → Type 0
+abbrev pub AnswersFront : Tables → List ℕ → List ℤ → Option LineFront → Type 0
 AnswersFront p line list None = AnswersLine p line list None
 AnswersFront p line list (Some (fronts.Firing time node)) =
     (node < length p.nodes) × ((s : Spelled) → IsSpelled p line s → BeginsFiring time node s)

@@ -5,12 +5,12 @@ ghost use Rattle.std.specs.Prelude.{length};
 ghost use Rattle.std.specs.Option.{option_map};
 ghost use Rattle.sot_trace.specs.Lines.{firing_word};
 ghost use Rattle.sot_trace.specs.Words.{AreWords};
-ghost use Rattle.sot_trace_lines.specs.declared.line.Front.TheVariants.{Whole as WholeLine};
+ghost use Rattle.sot_trace_lines.specs.declared.line.LineFront.TheVariants.{Whole as WholeLine};
 ghost use Rattle.sot_trace_lines.specs.Shown.{AnswersFront};
 ghost use Rattle.sot_trace_lines.specs.Readers.{fire_at, event_at, spelled_at};
 ghost use Rattle.sot_trace_lines.specs.Kept.{bounded, ShowsFront};
 
-use crate::line::{Front, Line};
+use crate::line::{Line, LineFront};
 use crate::name::{keeps_rules, node_named, word_at};
 use crate::piece::{behind, numeral_at};
 use crate::read::{read_counts, read_event};
@@ -29,20 +29,20 @@ fn behind_firing(text: &[u8]) -> Option<&[u8]>
 }
 
 // The node of a firing, behind its word. What stands behind the node's name is not looked at.
-fn firing_front(p: &Typed, time: Option<i64>, text: &[u8], from: &mut usize) -> Option<Front>
+fn firing_front(p: &Typed, time: Option<i64>, text: &[u8], from: &mut usize) -> Option<LineFront>
     ensures { (t : ℕ) (enabled : Bool) (list : List ℤ) → time ≡ bounded (pos t)
         → ShowsFront p.now list result (fire_at p.now enabled t text.now) }
 {
     let word = word_at(text);
     let node = node_named(p, word.name, from)?;
-    Some(Front::Firing { time, node })
+    Some(LineFront::Firing { time, node })
 }
 
-fn whole(line: Option<Line>) -> Option<Front>
+fn whole(line: Option<Line>) -> Option<LineFront>
     ensures { result ≡ option_map (λ l. WholeLine l) line }
 {
     match line {
-        Some(line) => Some(Front::Whole(line)),
+        Some(line) => Some(LineFront::Whole(line)),
         None => None,
     }
 }
@@ -54,7 +54,7 @@ fn event_front(
     text: &[u8],
     from: &mut usize,
     numbers: &mut Vec<i64>,
-) -> Result<Option<Front>, AllocError>
+) -> Result<Option<LineFront>, AllocError>
     requires { numbers.old.items ≡ [] }
     ensures { IfOk result (λ f. (t : ℕ) → time ≡ bounded (pos t)
         → ShowsFront p.now numbers.new.items f (event_at p.now t text.now)) }
@@ -63,7 +63,7 @@ fn event_front(
         return Ok(firing_front(p, time, rest, from));
     }
     if let Some(_moves) = behind(text, b" tick") {
-        return Ok(Some(Front::Tick { time }));
+        return Ok(Some(LineFront::Tick { time }));
     }
     Ok(whole(read_event(p, time, text, from, numbers)?))
 }
@@ -73,7 +73,7 @@ fn front(
     line: &[u8],
     from: &mut usize,
     numbers: &mut Vec<i64>,
-) -> Result<Option<Front>, AllocError>
+) -> Result<Option<LineFront>, AllocError>
     requires { numbers.old.items ≡ [] }
     ensures { IfOk result (λ f. ShowsFront p.now numbers.new.items f (spelled_at p.now line.now)) }
 {
@@ -97,7 +97,7 @@ pub fn read_front(
     line: &[u8],
     from: &mut usize,
     numbers: &mut Vec<i64>,
-) -> Result<Option<Front>, AllocError>
+) -> Result<Option<LineFront>, AllocError>
     requires words { AreWords p.now }
     ensures { IfOk result (λ f. AnswersFront p.now line.now numbers.new.items f) }
 {

@@ -21,7 +21,7 @@ mod start;
 pub use entry::is_line_of;
 pub use front::read_front;
 pub use laws::{entries_are_spelled, lines_spell_once};
-pub use line::{Front, Line};
+pub use line::{Line, LineFront};
 pub use lines::Lines;
 pub use moves::move_front;
 pub use name::{Word, keeps_rules, word_at};

@@ -10,7 +10,7 @@ ghost use Rattle.sot_trace_lines.specs.Kept.{behind_mark, draft_one, kept_slot, 
 
 use crate::piece::{behind, number_at};
 use sot_lang::{Draft, Typed};
-use sot_tree::Name;
+use sot_syntax_tree::Name;
 
 /// A draft of the numbers of 64 bits, whether all of them are, and the text behind them.
 #[derive(Clone, Copy)]

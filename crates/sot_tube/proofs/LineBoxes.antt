@@ -6,7 +6,7 @@ use Rattle.std.proofs.lemmas.Bool.{false≢true}
 use Rattle.std.specs.Global.{Global}
 use Rattle.sot_box.specs.Sides.{Side, IsIn}
 use Rattle.sot_box.specs.Regions.{Covers}
-use Rattle.sot_tree.specs.declared.operator.Op.TheVariants.{Add, Greater, Less}
+use Rattle.sot_syntax_tree.specs.declared.operator.Op.TheVariants.{Add, Greater, Less}
 use Rattle.sot_lang.specs.declared.term.Term.TheVariants.{Number, Place, Binary', If'}
 use Rattle.sot_lang.specs.Values.{is_word, truth, is_true}
 use Rattle.sot_lang.specs.Line.{side, somewhere, boxed, next_x, pos_plant, slow_term, nav}

@@ -5,7 +5,7 @@ use Rattle.std.proofs.Common.{refl}
 use Rattle.std.specs.Global.{Global, Vec}
 use Rattle.sot_lang.specs.declared.act.Act.{Act}
 use Rattle.sot_box.specs.Sides.{Side}
-use Rattle.sot_tree.specs.declared.operator.Op.TheVariants.{Add, Div}
+use Rattle.sot_syntax_tree.specs.declared.operator.Op.TheVariants.{Add, Div}
 use Rattle.sot_lang.specs.declared.term.Term.TheVariants.{Number, Place, Binary'}
 use Rattle.sot_lang.specs.declared.cert.Cells.{Cells}
 use Rattle.sot_lang.specs.declared.cert.Cert.{Cert}

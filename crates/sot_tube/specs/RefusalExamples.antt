@@ -2,7 +2,7 @@
 use Rattle.std.specs.Prelude.{pos, negsuc, true, false, List, [], ◌∷◌, Some, None}
 use Rattle.std.proofs.Common.{refl}
 use Rattle.std.specs.Global.{Global}
-use Rattle.sot_tree.specs.declared.operator.Op.TheVariants.{Div}
+use Rattle.sot_syntax_tree.specs.declared.operator.Op.TheVariants.{Div}
 use Rattle.sot_lang.specs.declared.term.Term.TheVariants.{Number, Place, Binary'}
 use Rattle.sot_lang.specs.declared.act.Act.TheVariants.{Publish}
 use Rattle.sot_lang.specs.declared.act.Act.{Act}

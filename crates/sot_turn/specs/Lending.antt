@@ -3,7 +3,7 @@ use Rattle.std.specs.Prelude.{[]}
 use Rattle.std.specs.Borrow.{Lends, MutBor, Fml}
 use denote.RattleType.{RattleType}
 use mir.Syntax.{named}
-use Rattle.sot_journal.specs.declared.Journal.{Ghosts}
+use Rattle.sot_turn_journal.specs.declared.Journal.{Ghosts}
 use Rattle.sot_turn.specs.declared.turn.Held.{Held}
 use Rattle.sot_turn.specs.contracts.turn.Held.{the_row}
 use Rattle.sot_turn.specs.Passes.{with_value}

@@ -1,7 +1,7 @@
 -- What contracts say of a lock, a pass and a held value.
 use Rattle.std.specs.Prelude.{List, Option}
 use Rattle.atomic_table.specs.Seated.{TableId}
-use Rattle.sot_journal.specs.declared.Journal.{Ghosts}
+use Rattle.sot_turn_journal.specs.declared.Journal.{Ghosts}
 use Rattle.sot_turn.specs.declared.turn.Turn.{Turn}
 use Rattle.sot_turn.specs.declared.turn.Pass.{Pass}
 use Rattle.sot_turn.specs.declared.turn.Held.{Held}

@@ -11,5 +11,5 @@
 
 mod turn;
 
-pub use sot_journal::Journal;
+pub use sot_turn_journal::Journal;
 pub use turn::{Held, Pass, Turn};

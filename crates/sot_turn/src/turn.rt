@@ -1,7 +1,7 @@
 //! The lock, its passes, and the value while a pass has the turn.
 ghost use Rattle.std.specs.Prelude.{◌≡◌, true, false, [], ◌∷◌, None, IsSome};
 
-use sot_journal::Journal;
+use sot_turn_journal::Journal;
 use std::marker::PhantomData;
 
 mod calls;

@@ -3,13 +3,13 @@ use Rattle.std.proofs.Common.{◌≡◌, ℕ, ◌+◌, ◌<◌, ◌≤◌, List,
 use Rattle.std.proofs.lemmas.List.{drop_all}
 use Rattle.std.specs.Global.{Box, Vec}
 use Rattle.sot_text.specs.declared.token.Span.{Span}
-use Rattle.sot_tree.specs.declared.tree.Lit.{Lit}
-use Rattle.sot_tree.specs.declared.tree.Branch.{Branch}
-use Rattle.sot_tree.specs.declared.tree.Stmt.{Stmt, If, Repeat}
+use Rattle.sot_syntax_tree.specs.declared.tree.Lit.{Lit}
+use Rattle.sot_syntax_tree.specs.declared.tree.Branch.{Branch}
+use Rattle.sot_syntax_tree.specs.declared.tree.Stmt.{Stmt, If, Repeat}
 use Rattle.sot_lang.specs.declared.term.Term.{Term}
 use Rattle.sot_lang.specs.declared.act.Act.{Act, If as IfAct, Repeat as RepeatAct}
-use Rattle.sot_tree.specs.TreeViews.{tree_view, statement_view, block_view}
-use Rattle.sot_tree.proofs.BlockRows.{branch_view, repeat_view}
+use Rattle.sot_syntax_tree.specs.TreeViews.{tree_view, statement_view, block_view}
+use Rattle.sot_syntax_tree.proofs.BlockRows.{branch_view, repeat_view}
 use Rattle.sot_rules.specs.declared.fault.TypeKind.TheVariants.{ScaleDiffers, KindDiffers, PeriodOutside}
 use Rattle.sot_rules.specs.Sorts.{is_scaled}
 use Rattle.sot_rules.specs.Names.{Scope}

@@ -3,7 +3,7 @@ use Rattle.std.proofs.Common.{◌≡◌, ◌∙◌, ℕ, zero, suc, ◌+◌, Lis
 use Rattle.std.proofs.Common.{Bool, arith}
 use Rattle.std.specs.List.{cons_option, position_or_len}
 use Rattle.sot_lists.specs.Places.{At}
-use Rattle.sot_tree.specs.declared.tree.Ident.{Ident}
+use Rattle.sot_syntax_tree.specs.declared.tree.Ident.{Ident}
 use Rattle.sot_rules.specs.Lists.{are_same}
 use Rattle.sot_typing.proofs.Lists.{of_kept, at_same}
 use Rattle.sot_typing.proofs.Once.{AreOnce, same_name, name_same}

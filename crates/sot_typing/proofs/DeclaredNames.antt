@@ -4,14 +4,14 @@ use Rattle.std.proofs.Common.{None, option_map, arith}
 use Rattle.std.specs.List.{cons_option}
 use Rattle.sot_lists.specs.Places.{At}
 use Rattle.sot_text.specs.declared.token.Span.{Span}
-use Rattle.sot_tree.specs.declared.tree.Ident.{Ident}
+use Rattle.sot_syntax_tree.specs.declared.tree.Ident.{Ident}
 use Rattle.sot_lang.specs.declared.tables.TopicInfo.{TopicInfo}
 use Rattle.sot_lang.specs.declared.tables.PlantInfo.{PlantInfo}
 use Rattle.sot_lang.specs.declared.tables.NodeInfo.{NodeInfo}
 use Rattle.sot_lang.specs.declared.tables.ModuleInfo.{ModuleInfo}
 use Rattle.sot_lang.specs.TableRules.{AreDistinct, declared_names}
 use Rattle.sot_lang.specs.Tables.{Tables}
-use Rattle.sot_tree.specs.Trees.{Topic, Plant, Node, Module, Declaration, a_topic, a_plant, a_node, a_module, Program}
+use Rattle.sot_syntax_tree.specs.Trees.{Topic, Plant, Node, Module, Declaration, a_topic, a_plant, a_node, a_module, Program}
 use Rattle.sot_rules.specs.declared.fault.TypeKind.TheVariants.{TooMany}
 use Rattle.sot_rules.specs.First.{IsFaultless}
 use Rattle.sot_rules.specs.Fails.{many_topics, many_nodes, many_modules, many_plants}

@@ -7,14 +7,14 @@ use Rattle.std.proofs.lemmas.Bool.{or_from, false_from_ne_true}
 use Rattle.sot_lists.specs.Places.{At}
 use Rattle.sot_text.specs.declared.token.Span.{Span}
 use Rattle.sot_lang.specs.Values.{is_word}
-use Rattle.sot_tree.specs.declared.tree.Ident.{Ident}
-use Rattle.sot_tree.specs.declared.tree.Lit.{Lit}
-use Rattle.sot_tree.specs.declared.operator.Op.{Op}
-use Rattle.sot_tree.specs.declared.operator.Op.TheVariants.{Add, Sub, Mul, Div, Less, LessEqual, Greater, GreaterEqual, Equal, NotEqual, And, Or}
-use Rattle.sot_tree.specs.declared.operator.Func.{Func}
-use Rattle.sot_tree.specs.declared.operator.Func.TheVariants.{Min, Max, Abs, Clamp}
-use Rattle.sot_tree.specs.Functions.{arity}
-use Rattle.sot_tree.specs.Trees.{Tree, Trees, number, truth, named, binary, rest, negated, denied, called, rescaled, chosen, no_tree, one_more}
+use Rattle.sot_syntax_tree.specs.declared.tree.Ident.{Ident}
+use Rattle.sot_syntax_tree.specs.declared.tree.Lit.{Lit}
+use Rattle.sot_syntax_tree.specs.declared.operator.Op.{Op}
+use Rattle.sot_syntax_tree.specs.declared.operator.Op.TheVariants.{Add, Sub, Mul, Div, Less, LessEqual, Greater, GreaterEqual, Equal, NotEqual, And, Or}
+use Rattle.sot_syntax_tree.specs.declared.operator.Func.{Func}
+use Rattle.sot_syntax_tree.specs.declared.operator.Func.TheVariants.{Min, Max, Abs, Clamp}
+use Rattle.sot_syntax_tree.specs.Functions.{arity}
+use Rattle.sot_syntax_tree.specs.Trees.{Tree, Trees, number, truth, named, binary, rest, negated, denied, called, rescaled, chosen, no_tree, one_more}
 use Rattle.sot_rules.specs.declared.fault.TypeKind.{TypeKind}
 use Rattle.sot_rules.specs.declared.fault.TypeKind.TheVariants.{Unknown, ScaleDiffers, KindDiffers}
 use Rattle.sot_rules.specs.declared.expressions.sort.Sort.{Sort}
@@ -22,7 +22,7 @@ use Rattle.sot_rules.specs.declared.expressions.sort.Sort.TheVariants.{Scaled, T
 use Rattle.sot_rules.specs.Sorts.{is_truthful, is_scaled, differ, kinds_misfit, scales_misfit, operator_sort, given, some_differ, call_sort, branches_misfit}
 use Rattle.sot_rules.specs.Names.{Thing, Reading, gives, nothing_at, reading, reading_sort}
 use Rattle.sot_rules.specs.TreeSorts.{is_zero, is_no_scale, sort, sorts}
-use Rattle.sot_tree.specs.Formed.{IsTree, AreTrees, part_count}
+use Rattle.sot_syntax_tree.specs.Formed.{IsTree, AreTrees, part_count}
 use Rattle.sot_rules.specs.Fails.{TreeFails, PartsFail, unknown, operands_kind, operands_scale, rest_kind, rest_scale, rest_zero, negated_truth, denied_number}
 use Rattle.sot_rules.specs.Fails.{call_kind, call_scale, rescaled_truth, rescaled_far, branches_kind, branches_scale, in_left, in_right, in_rest, in_negated}
 use Rattle.sot_rules.specs.Fails.{in_denied, in_call, in_rescaled, in_condition, in_then, in_else, in_first, in_later}

@@ -7,7 +7,7 @@ use Rattle.sot_lang.specs.declared.tables.StateInfo.{StateInfo}
 use Rattle.sot_lang.specs.declared.tables.NoiseInfo.{NoiseInfo}
 use Rattle.sot_lang.specs.declared.tables.LocalInfo.{LocalInfo}
 use Rattle.sot_lang.specs.declared.tables.Slot.{Slot}
-use Rattle.sot_tree.specs.Trees.{Next, Plant, Node, Program}
+use Rattle.sot_syntax_tree.specs.Trees.{Next, Plant, Node, Program}
 use Rattle.sot_rules.specs.Names.{plant_scope}
 use Rattle.sot_typing.specs.Formulas.{Formula, formula_view}
 use Rattle.sot_typing.specs.Terms.{formula_of}

@@ -9,17 +9,17 @@ use Rattle.std.proofs.lemmas.Bool.{false_from_ne_true}
 use Rattle.sot_lists.specs.Places.{At, Has}
 use Rattle.sot_box.specs.Sides.{Side, AreOrdered}
 use Rattle.sot_text.specs.declared.token.Span.{Span}
-use Rattle.sot_tree.specs.declared.tree.Bounds.{Bounds}
-use Rattle.sot_tree.specs.declared.tree.Scalar.{Scalar}
-use Rattle.sot_tree.specs.declared.tree.Field.{Field}
-use Rattle.sot_tree.specs.declared.tree.StateDecl.{StateDecl}
-use Rattle.sot_tree.specs.Trees.{Form, one, fields, Topic, Plant, Node, Module, Area, Declaration, a_topic, a_plant, a_node, a_module, Program}
+use Rattle.sot_syntax_tree.specs.declared.tree.Bounds.{Bounds}
+use Rattle.sot_syntax_tree.specs.declared.tree.Scalar.{Scalar}
+use Rattle.sot_syntax_tree.specs.declared.tree.Field.{Field}
+use Rattle.sot_syntax_tree.specs.declared.tree.StateDecl.{StateDecl}
+use Rattle.sot_syntax_tree.specs.Trees.{Form, one, fields, Topic, Plant, Node, Module, Area, Declaration, a_topic, a_plant, a_node, a_module, Program}
 use Rattle.sot_rules.specs.declared.fault.TypeKind.{TypeKind}
 use Rattle.sot_rules.specs.declared.fault.TypeKind.TheVariants.{Unknown, KindDiffers, TooMany}
 use Rattle.sot_rules.specs.Fails.{ScalarFails, scalar, many_fields, many_states, seen_unknown, seen_topic, noise_scalar, node_times, local_scalar, ac_unknown}
 use Rattle.sot_rules.specs.Fails.{sc_unknown, module_times, plant_unknown, plant_topic, safe, safer, many_topics, many_plants, many_nodes, many_modules}
 use Rattle.sot_rules.specs.First.{IsFaultless}
-use Rattle.sot_tree.specs.Formed.{IsFormed, IsDeclaration, HasItem}
+use Rattle.sot_syntax_tree.specs.Formed.{IsFormed, IsDeclaration, HasItem}
 use Rattle.sot_rules.specs.Faults.{declaration_faults, program_lists, faults}
 use Rattle.sot_rules.specs.Lists.{are_same}
 use Rattle.sot_rules.specs.Names.{declared_name, meaning, is_topic, is_plant, is_node}

@@ -1,14 +1,14 @@
 -- What the expressions and statements of tables satisfy, said of them without memory.
 use Rattle.std.proofs.Common.{◌≡◌, ◌∙◌, ℕ, zero, suc, ◌<◌, ◌≤◌, pos, ◌≤ℤ◌, List, [], ◌∷◌, length, Bool, true, refl, sym, ap}
 use Rattle.sot_lists.specs.Places.{At}
-use Rattle.sot_tree.specs.declared.operator.Op.{Op}
-use Rattle.sot_tree.specs.declared.operator.Op.TheVariants.{Add, Sub, Mul, Div, Less, LessEqual, Greater, GreaterEqual, Equal, NotEqual, And, Or}
+use Rattle.sot_syntax_tree.specs.declared.operator.Op.{Op}
+use Rattle.sot_syntax_tree.specs.declared.operator.Op.TheVariants.{Add, Sub, Mul, Div, Less, LessEqual, Greater, GreaterEqual, Equal, NotEqual, And, Or}
 use Rattle.sot_lang.specs.declared.term.Term.{Term, Row_of-Term, end_of-Term, more_of-Term, items-the_row-Term}
 use Rattle.sot_lang.specs.declared.term.Term.TheVariants.{Number, Place, Binary', Rest', Neg', Not', Call', Rescale', If'}
 use Rattle.sot_lang.specs.declared.act.Act.{Act, Row_of-Act, end_of-Act, more_of-Act}
 use Rattle.sot_lang.specs.declared.act.Act.TheVariants.{Assign, Publish, If' as IfAct', Repeat'}
 use Rattle.sot_lang.specs.Values.{is_word}
-use Rattle.sot_tree.specs.Functions.{arity}
+use Rattle.sot_syntax_tree.specs.Functions.{arity}
 use Rattle.sot_lang.specs.TermRules.{GivesTruth, IsTruth, OperandsFit, TermFits, PartsFit}
 use Rattle.sot_lang.specs.ActRules.{ActFits, RowFits, ActsFit}
 use Rattle.sot_typing.specs.Formulas.{Formula, Formulas, number, place, binary, rest, negated, denied, called, rescaled, chosen, no_formula, one_more, Deed}

@@ -3,11 +3,11 @@ use Rattle.std.proofs.Common.{◌≡◌, ◌∙◌, ℕ, ◌<◌, List, [], ◌�
 use Rattle.std.specs.Prelude.{flat_map, filter_map}
 use Rattle.std.specs.List.{All, cons_option}
 use Rattle.std.proofs.lemmas.List.{get_or-map, length-map, append-nil}
-use Rattle.sot_tree.specs.declared.tree.Decl.{Decl}
-use Rattle.sot_tree.specs.declared.tree.TopicDecl.{TopicDecl}
-use Rattle.sot_tree.specs.declared.tree.Decl.TheVariants as decls
-use Rattle.sot_tree.specs.TreeViews.{declaration_view, topic_view}
-use Rattle.sot_tree.specs.Trees.{Program}
+use Rattle.sot_syntax_tree.specs.declared.tree.Decl.{Decl}
+use Rattle.sot_syntax_tree.specs.declared.tree.TopicDecl.{TopicDecl}
+use Rattle.sot_syntax_tree.specs.declared.tree.Decl.TheVariants as decls
+use Rattle.sot_syntax_tree.specs.TreeViews.{declaration_view, topic_view}
+use Rattle.sot_syntax_tree.specs.Trees.{Program}
 use Rattle.sot_lang.specs.Tables.{Tables}
 use Rattle.sot_rules.specs.declared.names.index.Index.{Index}
 use Rattle.sot_rules.specs.Indexes.{program_in}
@@ -15,7 +15,7 @@ use Rattle.sot_typing.specs.Resolved.{a_topic_of, topic_place, topics, plants, n
 use Rattle.sot_typing.specs.Resolved.{node_table, module_info, tables_of, AreTables}
 use Rattle.sot_typing.specs.Parts.{scalars_at}
 use Rattle.sot_typing.specs.Fits.{DeclarationFits, AllFit}
-use Rattle.sot_typing.proofs.Found.{decl_at}
+use Rattle.sot_typing.proofs.FoundThing.{decl_at}
 
 -- what holds of all that are seen holds of each as it is seen
 pub all_mapped : {X Y : Type 0} (P : Y → Type 0) (f : X → Y) (xs : List X) → All P (map f xs) → All (λ x. P (f x)) xs

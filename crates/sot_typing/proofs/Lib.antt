@@ -29,7 +29,7 @@ pub mod Meets
 pub mod Scalars
 pub mod Counting
 pub mod Counted
-pub mod Found
+pub mod FoundThing
 pub mod Gathered
 mod Filled
 pub mod Fitting

@@ -4,9 +4,9 @@ use Rattle.std.specs.Prelude.{flat_map}
 use Rattle.std.specs.Option.{option_to_list}
 use Rattle.std.specs.List.{cons_option}
 use Rattle.std.proofs.lemmas.List.{drop_all, append_assoc, append-nil}
-use Rattle.sot_tree.specs.declared.tree.Decl.{Decl}
-use Rattle.sot_tree.specs.Trees.{Declaration}
-use Rattle.sot_tree.specs.TreeViews.{declaration_view}
+use Rattle.sot_syntax_tree.specs.declared.tree.Decl.{Decl}
+use Rattle.sot_syntax_tree.specs.Trees.{Declaration}
+use Rattle.sot_syntax_tree.specs.TreeViews.{declaration_view}
 use Rattle.sot_rules.proofs.Loops.{rest_is}
 
 -- what some items add, each of them its own

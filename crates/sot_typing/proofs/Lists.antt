@@ -5,7 +5,7 @@ use Rattle.std.specs.List.{list_any, cons_option}
 pub use Rattle.std.proofs.lemmas.Option.{slice_get_within as at_lt}
 pub use Rattle.sot_lists.proofs.Places.{at_map, at_same, at_below, at_mapped}
 use Rattle.sot_lists.specs.Places.{At}
-use Rattle.sot_tree.specs.Formed.{Each}
+use Rattle.sot_syntax_tree.specs.Formed.{Each}
 
 -- of two lists one behind the other
 pub at_left : {A : Type 0} (xs ys : List A) (k : ℕ) (x : A) → At xs k x → At (xs ++ ys) k x

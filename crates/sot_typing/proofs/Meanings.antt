@@ -5,15 +5,15 @@ use Rattle.std.proofs.lemmas.Option.{same_Some, none-some}
 use native.Mathlib.Omega.{arith}
 use Rattle.sot_lists.specs.Places.{At, Has}
 use Rattle.sot_text.specs.declared.token.Span.{Span}
-use Rattle.sot_tree.specs.declared.tree.Ident.{Ident}
+use Rattle.sot_syntax_tree.specs.declared.tree.Ident.{Ident}
 use Rattle.sot_lang.specs.declared.tables.Slot.{Slot}
 use Rattle.sot_lang.specs.declared.tables.Slot.TheVariants.{Scalar as ScalarSlot, State}
-use Rattle.sot_tree.specs.Trees.{Topic, Plant, Node, Module, Declaration, a_topic, a_plant, a_node, a_module, Program}
+use Rattle.sot_syntax_tree.specs.Trees.{Topic, Plant, Node, Module, Declaration, a_topic, a_plant, a_node, a_module, Program}
 use Rattle.sot_rules.specs.declared.fault.TypeKind.{TypeKind}
 use Rattle.sot_rules.specs.declared.fault.TypeKind.TheVariants.{Twice}
 use Rattle.sot_rules.specs.Fails.{TopicFails, PlantFails, NodeFails, ModuleFails, declared_twice, declaration, in_topic, in_plant, in_node, in_module}
 use Rattle.sot_rules.specs.First.{IsFaultless}
-use Rattle.sot_tree.specs.Formed.{IsFormed, IsDeclaration, IsTopic, IsPlant, IsNode, IsModule}
+use Rattle.sot_syntax_tree.specs.Formed.{IsFormed, IsDeclaration, IsTopic, IsPlant, IsNode, IsModule}
 use Rattle.sot_rules.specs.Names.{declared_name, meaning, is_topic, is_plant, is_node}
 use Rattle.sot_rules.specs.Lists.{are_same}
 use Rattle.sot_rules.specs.Tests.{topic_size, read_size}

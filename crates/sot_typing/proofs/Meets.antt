@@ -18,10 +18,10 @@ use Rattle.sot_lang.specs.Tables.{Tables}
 use Rattle.sot_lang.specs.TableRules.{IsCoded, IsTyped, MeetsPlantRules, MeetsNodeRules, MeetsTableRules}
 use Rattle.sot_lang.specs.TermRules.{TermFits, TermsFit}
 use Rattle.sot_lang.specs.ActRules.{ActsFit}
-use Rattle.sot_tree.specs.Trees.{Next, Program}
+use Rattle.sot_syntax_tree.specs.Trees.{Next, Program}
 use Rattle.sot_rules.specs.declared.fault.TypeKind.TheVariants.{KindDiffers}
 use Rattle.sot_rules.specs.First.{IsFaultless}
-use Rattle.sot_tree.specs.Formed.{IsFormed, IsNext, IsBlock, IfThere}
+use Rattle.sot_syntax_tree.specs.Formed.{IsFormed, IsNext, IsBlock, IfThere}
 use Rattle.sot_rules.specs.Fails.{noise_truth, noise_scalar, next_value, local_scalar, statements}
 use Rattle.sot_rules.specs.Names.{local_thing, node_scope, plant_scope}
 use Rattle.sot_typing.specs.Formulas.{Deeds, formula_view, deeds_view}

@@ -9,18 +9,18 @@ use Rattle.sot_lists.specs.Places.{At, Has}
 use Rattle.sot_box.specs.Sides.{Side, AreOrdered}
 use Rattle.sot_text.specs.declared.token.Span.{Span}
 use Rattle.sot_lang.specs.declared.act.Act.{Act}
-use Rattle.sot_tree.specs.declared.tree.Bounds.{Bounds}
+use Rattle.sot_syntax_tree.specs.declared.tree.Bounds.{Bounds}
 use Rattle.sot_lang.specs.declared.tables.PlantInfo.{PlantInfo}
 use Rattle.sot_lang.specs.declared.tables.NodeInfo.{NodeInfo}
 use Rattle.sot_lang.specs.declared.tables.ModuleInfo.{ModuleInfo}
 use Rattle.sot_lang.specs.TableRules.{IsCoded, IsRegionFor, MeetsModuleRules}
 use Rattle.sot_lang.specs.Tables.{Tables}
-use Rattle.sot_tree.specs.Trees.{Plant, Node, Module, Area, Block, Declaration, a_plant, a_node, Program}
+use Rattle.sot_syntax_tree.specs.Trees.{Plant, Node, Module, Area, Block, Declaration, a_plant, a_node, Program}
 use Rattle.sot_rules.specs.declared.fault.TypeKind.{TypeKind}
 use Rattle.sot_rules.specs.declared.fault.TypeKind.TheVariants.{Unknown, Twice, KindDiffers, TooMany}
 use Rattle.sot_rules.specs.declared.expressions.sort.Sort.{Sort}
 use Rattle.sot_rules.specs.First.{IsFaultless}
-use Rattle.sot_tree.specs.Formed.{IsFormed}
+use Rattle.sot_syntax_tree.specs.Formed.{IsFormed}
 use Rattle.sot_rules.specs.Sorts.{state_sort}
 use Rattle.sot_rules.specs.Names.{meaning, is_topic, is_plant, is_node, is_external, node_scope}
 use Rattle.sot_rules.specs.Tests.{side_sorts, has_other_width, sides_of, free_sides}

@@ -7,7 +7,7 @@ use Rattle.std.proofs.lemmas.Option.{none-some}
 use Rattle.sot_lists.specs.Places.{At, Has}
 use Rattle.sot_box.specs.Boxes.{IsWithin}
 use Rattle.sot_lang.specs.declared.act.Act.{Act}
-use Rattle.sot_tree.specs.declared.tree.Ident.{Ident}
+use Rattle.sot_syntax_tree.specs.declared.tree.Ident.{Ident}
 use Rattle.sot_lang.specs.declared.tables.TopicInfo.{TopicInfo}
 use Rattle.sot_lang.specs.declared.tables.PlantInfo.{PlantInfo}
 use Rattle.sot_lang.specs.declared.tables.NodeInfo.{NodeInfo}
@@ -19,10 +19,10 @@ use Rattle.sot_lang.specs.OwnerNames.{width_of}
 use Rattle.sot_lang.specs.Ranges.{local_ranges}
 use Rattle.sot_lang.specs.TableRules.{MeetsLocalRules}
 use Rattle.sot_lang.specs.Tables.{Tables}
-use Rattle.sot_tree.specs.Trees.{Topic, Plant, Local, a_plant, Program}
+use Rattle.sot_syntax_tree.specs.Trees.{Topic, Plant, Local, a_plant, Program}
 use Rattle.sot_rules.specs.declared.fault.TypeKind.TheVariants.{Twice, KindDiffers, ReadsAndWrites, TooMany}
 use Rattle.sot_rules.specs.First.{IsFaultless}
-use Rattle.sot_tree.specs.Formed.{IsFormed}
+use Rattle.sot_syntax_tree.specs.Formed.{IsFormed}
 use Rattle.sot_rules.specs.Names.{meaning, is_topic, is_environment, node_scope}
 use Rattle.sot_rules.specs.Lists.{is_among, are_same}
 use Rattle.sot_rules.specs.Tests.{read_size}

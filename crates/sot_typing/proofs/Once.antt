@@ -4,7 +4,7 @@ use Rattle.std.proofs.lemmas.List.{take_all}
 use Rattle.std.proofs.lemmas.Slice.Eq.{bytes_eq-Decides}
 use Rattle.sot_lists.specs.Places.{At}
 use Rattle.sot_text.specs.declared.token.Span.{Span}
-use Rattle.sot_tree.specs.declared.tree.Ident.{Ident}
+use Rattle.sot_syntax_tree.specs.declared.tree.Ident.{Ident}
 use Rattle.sot_rules.specs.Lists.{are_same, IsRepeated, IsPast, IsPassedBy}
 use Rattle.sot_typing.proofs.Lists.{at_below, at_map, any_at}
 use Rattle.sot_typing.proofs.Joined.{order, sum_next}

@@ -2,12 +2,12 @@
 use Rattle.std.proofs.Common.{◌≡◌, ℕ, zero, suc, ◌<◌, List, [], ◌∷◌, length, map, flat_map, Option, Some, None, refl, sym, ap, ◌∙◌, arith}
 use Rattle.std.specs.Prelude.{slice_index_or}
 use Rattle.std.specs.Global.{Vec}
-use Rattle.sot_tree.specs.declared.tree.Stmt.{Stmt}
-use Rattle.sot_tree.specs.declared.tree.NextDecl.{NextDecl}
-use Rattle.sot_tree.specs.declared.tree.NodeDecl.{NodeDecl}
-use Rattle.sot_tree.specs.declared.tree.PlantDecl.{PlantDecl}
-use Rattle.sot_tree.specs.Trees.{Block, Next, Plant, Program}
-use Rattle.sot_tree.specs.TreeViews.{tree_view, block_view, next_view, node_view, plant_view}
+use Rattle.sot_syntax_tree.specs.declared.tree.Stmt.{Stmt}
+use Rattle.sot_syntax_tree.specs.declared.tree.NextDecl.{NextDecl}
+use Rattle.sot_syntax_tree.specs.declared.tree.NodeDecl.{NodeDecl}
+use Rattle.sot_syntax_tree.specs.declared.tree.PlantDecl.{PlantDecl}
+use Rattle.sot_syntax_tree.specs.Trees.{Block, Next, Plant, Program}
+use Rattle.sot_syntax_tree.specs.TreeViews.{tree_view, block_view, next_view, node_view, plant_view}
 use Rattle.sot_rules.specs.Names.{Thing, node_scope, plant_scope}
 use Rattle.sot_rules.specs.Faults.{together, node_lists, plant_lists, tree_faults, block_faults, body_faults, next_faults}
 use Rattle.sot_typing.specs.Terms.{formula_of}

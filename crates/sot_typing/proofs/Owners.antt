@@ -7,10 +7,10 @@ use Rattle.std.proofs.lemmas.Option.{get_or_from_slice_get}
 use Rattle.std.proofs.lemmas.Grind.{flat_map-append}
 use Rattle.sot_lists.specs.Places.{At, Has}
 use Rattle.sot_lists.proofs.Places.{same_items}
-use Rattle.sot_tree.specs.declared.tree.Ident.{Ident}
-use Rattle.sot_tree.specs.declared.tree.Field.{Field}
-use Rattle.sot_tree.specs.declared.tree.Scalar.{Scalar}
-use Rattle.sot_tree.specs.declared.tree.StateDecl.{StateDecl}
+use Rattle.sot_syntax_tree.specs.declared.tree.Ident.{Ident}
+use Rattle.sot_syntax_tree.specs.declared.tree.Field.{Field}
+use Rattle.sot_syntax_tree.specs.declared.tree.Scalar.{Scalar}
+use Rattle.sot_syntax_tree.specs.declared.tree.StateDecl.{StateDecl}
 use Rattle.sot_lang.specs.declared.tables.ScalarInfo.{ScalarInfo}
 use Rattle.sot_lang.specs.declared.tables.StateInfo.{StateInfo}
 use Rattle.sot_lang.specs.declared.tables.NoiseInfo.{NoiseInfo}
@@ -19,7 +19,7 @@ use Rattle.sot_lang.specs.declared.tables.Slot.{Slot}
 use Rattle.sot_lang.specs.declared.tables.Slot.TheVariants.{Scalar as ScalarSlot, State}
 use Rattle.sot_lang.specs.OwnerNames.{width_of, seen_width, is_truth_scalar, reads_truth}
 use Rattle.sot_lang.specs.Tables.{Tables}
-use Rattle.sot_tree.specs.Trees.{Form, one, fields, Topic, Plant, Local, Declaration, a_topic, a_plant, a_node, a_module, Program}
+use Rattle.sot_syntax_tree.specs.Trees.{Form, one, fields, Topic, Plant, Local, Declaration, a_topic, a_plant, a_node, a_module, Program}
 use Rattle.sot_rules.specs.declared.expressions.sort.Sort.{Sort}
 use Rattle.sot_rules.specs.declared.expressions.sort.Sort.TheVariants.{Scaled}
 use Rattle.sot_rules.specs.First.{IsFaultless}

@@ -1,9 +1,9 @@
 -- Steps of the loop over the parts of a call.
 use Rattle.std.proofs.Common.{◌≡◌, ℕ, ◌+◌, ◌<◌, ◌≤◌, List, [], ◌∷◌, ◌++◌, length, get_or, drop, sym, ap, ◌∙◌, fold, arith}
 use Rattle.std.proofs.lemmas.List.{drop_all}
-use Rattle.sot_tree.specs.declared.tree.Expr.{Expr}
+use Rattle.sot_syntax_tree.specs.declared.tree.Expr.{Expr}
 use Rattle.sot_lang.specs.declared.term.Term.{Term}
-use Rattle.sot_tree.specs.TreeViews.{tree_view, parts_view}
+use Rattle.sot_syntax_tree.specs.TreeViews.{tree_view, parts_view}
 use Rattle.sot_rules.specs.declared.expressions.sort.Sort.{Sort}
 use Rattle.sot_rules.specs.declared.expressions.sort.Sort.TheVariants.{Scaled, Truthful, Anything}
 use Rattle.sot_rules.specs.Sorts.{given, call_sort}

@@ -6,7 +6,7 @@ use Rattle.std.specs.Str.{bytes_eq}
 use Rattle.std.proofs.lemmas.List.{length-map, length-append}
 use Rattle.std.proofs.lemmas.List.Folds.{find_at}
 use Rattle.sot_lists.specs.Places.{At}
-use Rattle.sot_tree.specs.declared.tree.Ident.{Ident}
+use Rattle.sot_syntax_tree.specs.declared.tree.Ident.{Ident}
 use Rattle.sot_rules.specs.declared.expressions.sort.Sort.{Sort}
 use Rattle.sot_rules.specs.Names.{Part, Parts, alone, several, Thing, gives, part_reading, parts_reading, thing_reading, reading}
 use Rattle.sot_typing.specs.Terms.{Reference, parts_references, references, are_both, is_meant, place_of}

@@ -2,7 +2,7 @@
 use Rattle.std.proofs.Common.{◌≡◌, ℕ, refl, ap, ap₂, ◌∙◌}
 use Rattle.std.specs.Global.{Vec}
 use Rattle.sot_text.specs.declared.token.Span.{Span}
-use Rattle.sot_tree.specs.declared.operator.Func.{Func}
+use Rattle.sot_syntax_tree.specs.declared.operator.Func.{Func}
 use Rattle.sot_lang.specs.declared.term.Term.{Term, Call, Row_of-Term, end_of-Term, more_of-Term, items-the_row-Term, items_hidden-the_row-Term-0}
 use Rattle.sot_lang.specs.declared.term.Term.TheBlock.{hidden-the_row-Term-0}
 use Rattle.sot_lang.specs.declared.act.Act.{Act, If, Repeat, Row_of-Act, end_of-Act, more_of-Act, items-the_row-Act, items_hidden-the_row-Act-0}

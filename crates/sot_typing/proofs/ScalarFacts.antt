@@ -8,14 +8,14 @@ use Rattle.sot_box.specs.Boxes.{IsWithin}
 use Rattle.sot_text.specs.declared.token.Span.{Span}
 use Rattle.sot_lang.specs.declared.tables.TopicInfo.{TopicInfo}
 use Rattle.sot_lang.specs.declared.tables.ScalarInfo.{ScalarInfo}
-use Rattle.sot_tree.specs.declared.tree.Field.{Field}
+use Rattle.sot_syntax_tree.specs.declared.tree.Field.{Field}
 use Rattle.sot_lang.specs.Ranges.{scalar_ranges}
 use Rattle.sot_lang.specs.TableRules.{MeetsScalarRules, IsNarrow}
 use Rattle.sot_lang.specs.Tables.{Tables}
-use Rattle.sot_tree.specs.Trees.{Form, one, fields, Topic, Program}
+use Rattle.sot_syntax_tree.specs.Trees.{Form, one, fields, Topic, Program}
 use Rattle.sot_rules.specs.declared.fault.TypeKind.TheVariants.{Twice, TooMany}
 use Rattle.sot_rules.specs.First.{IsFaultless}
-use Rattle.sot_tree.specs.Formed.{IsFormed, IsForm}
+use Rattle.sot_syntax_tree.specs.Formed.{IsFormed, IsForm}
 use Rattle.sot_rules.specs.Fails.{field_twice, many_fields, scalar, start}
 use Rattle.sot_rules.specs.Lists.{IsRepeated, IsPast, places}
 use Rattle.sot_rules.specs.Tests.{form_scalars, form_names}

@@ -2,10 +2,10 @@
 use Rattle.std.proofs.Common.{◌≡◌, ◌∙◌, ℕ, ◌+◌, ◌<◌, List, [], ◌∷◌, ◌++◌, length, get_or, drop, map, Some, false, refl, sym, ap, append_assoc}
 use Rattle.std.specs.Prelude.{zip}
 use Rattle.sot_lists.specs.Places.{At}
-use Rattle.sot_tree.specs.declared.tree.Const.{Const}
-use Rattle.sot_tree.specs.declared.tree.Field.{Field}
+use Rattle.sot_syntax_tree.specs.declared.tree.Const.{Const}
+use Rattle.sot_syntax_tree.specs.declared.tree.Field.{Field}
 use Rattle.sot_lang.specs.declared.tables.ScalarInfo.{ScalarInfo}
-use Rattle.sot_tree.specs.Trees.{Topic, fields}
+use Rattle.sot_syntax_tree.specs.Trees.{Topic, fields}
 use Rattle.sot_rules.specs.Tests.{counts_differ, form_scalars, start_values}
 use Rattle.sot_typing.proofs.Topics.{starts_are}
 use Rattle.sot_rules.proofs.Loops.{rest_is}

@@ -3,7 +3,7 @@ use Rattle.std.proofs.Common.{◌≡◌, ℕ, ◌+◌, ◌<◌, ◌≤◌, List,
 use Rattle.std.proofs.Common.{None, refl, sym, ap, ◌∙◌, subst, arith, length-append}
 use Rattle.std.specs.List.{position_or_len}
 use Rattle.std.specs.Str.{bytes_eq}
-use Rattle.sot_tree.specs.declared.tree.Ident.{Ident}
+use Rattle.sot_syntax_tree.specs.declared.tree.Ident.{Ident}
 use Rattle.std.proofs.lemmas.List.{drop_all, length-map}
 use Rattle.sot_rules.specs.Names.{Part, Parts, alone, several, Thing, part_reading, parts_reading, thing_reading, reading, reading_sort}
 use Rattle.sot_rules.specs.Faults.{reading_faults}

@@ -7,7 +7,7 @@ use Rattle.sot_lang.specs.declared.tables.PlantInfo.{PlantInfo}
 use Rattle.sot_lang.specs.declared.tables.NodeInfo.{NodeInfo}
 use Rattle.sot_lang.specs.declared.tables.ModuleInfo.{ModuleInfo}
 use Rattle.sot_lang.specs.Tables.{Tables}
-use Rattle.sot_tree.specs.Trees.{Topic, Plant, Node, Module, Program}
+use Rattle.sot_syntax_tree.specs.Trees.{Topic, Plant, Node, Module, Program}
 use Rattle.sot_typing.specs.Resolved.{topics, plants, nodes, modules, topic_info, topic_scalars, plant_table, plant_seen, node_table, node_seen, module_info}
 use Rattle.sot_typing.specs.Resolved.{tables_of, AreTables}
 use Rattle.sot_typing.proofs.Lists.{at_map, at_mapped}

@@ -12,13 +12,13 @@ use Rattle.std.proofs.lemmas.List.Sums.{sum_by-cons}
 use Rattle.std.proofs.lemmas.Option.{slice_get_cases}
 use Rattle.std.proofs.lemmas.Grind.{flat_map-append}
 use Rattle.sot_text.specs.declared.token.Span.{Span}
-use Rattle.sot_tree.specs.declared.tree.Ident.{Ident}
-use Rattle.sot_tree.specs.declared.tree.Lit.{Lit}
-use Rattle.sot_tree.specs.declared.tree.Field.{Field}
-use Rattle.sot_tree.specs.declared.tree.Scalar.{Scalar}
-use Rattle.sot_tree.specs.declared.tree.Scalar.TheVariants.{Int, Fix, Bool as BoolScalar}
-use Rattle.sot_tree.specs.declared.tree.StateDecl.{StateDecl}
-use Rattle.sot_tree.specs.Trees.{Form, one, fields, Topic, Plant, Local, Node, Declaration, a_topic, a_plant, a_node, a_module, Program}
+use Rattle.sot_syntax_tree.specs.declared.tree.Ident.{Ident}
+use Rattle.sot_syntax_tree.specs.declared.tree.Lit.{Lit}
+use Rattle.sot_syntax_tree.specs.declared.tree.Field.{Field}
+use Rattle.sot_syntax_tree.specs.declared.tree.Scalar.{Scalar}
+use Rattle.sot_syntax_tree.specs.declared.tree.Scalar.TheVariants.{Int, Fix, Bool as BoolScalar}
+use Rattle.sot_syntax_tree.specs.declared.tree.StateDecl.{StateDecl}
+use Rattle.sot_syntax_tree.specs.Trees.{Form, one, fields, Topic, Plant, Local, Node, Declaration, a_topic, a_plant, a_node, a_module, Program}
 use Rattle.sot_rules.specs.declared.fault.TypeFault.{TypeFault}
 use Rattle.sot_rules.specs.declared.expressions.sort.Sort.{Sort}
 use Rattle.sot_rules.specs.declared.expressions.sort.Sort.TheVariants.{Scaled, Anything}
@@ -31,7 +31,7 @@ use Rattle.sot_rules.specs.Tests.{form_scalars, topic_size, read_size, state_nam
 use Rattle.sot_rules.specs.declared.fault.TypeKind.TheVariants.{TooMany}
 use Rattle.sot_rules.specs.Lists.{places}
 use Rattle.sot_rules.specs.First.{IsFaultless}
-use Rattle.sot_tree.specs.Formed.{Each, IfThere}
+use Rattle.sot_syntax_tree.specs.Formed.{Each, IfThere}
 use Rattle.sot_rules.specs.Faults.{when, together, one_past, past, passes, scalar_faults, scale_faults, topic_lists, plant_lists, local_lists, noise_lists}
 use Rattle.sot_rules.specs.Faults.{node_lists, declaration_faults, program_lists, faults}
 use Rattle.sot_rules.proofs.Members.{In, in_has}

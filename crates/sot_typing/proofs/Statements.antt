@@ -2,8 +2,8 @@
 use Rattle.std.proofs.Common.{◌≡◌, ◌<◌, List, length, refl, Option, None, Bool}
 use Rattle.std.proofs.lemmas.Bool.{false_from_ne_true}
 use Rattle.sot_text.specs.declared.token.Span.{Span}
-use Rattle.sot_tree.specs.declared.tree.Ident.{Ident}
-use Rattle.sot_tree.specs.Trees.{Statement, Block, assigned, published, branched, repeated, no_statement, statement}
+use Rattle.sot_syntax_tree.specs.declared.tree.Ident.{Ident}
+use Rattle.sot_syntax_tree.specs.Trees.{Statement, Block, assigned, published, branched, repeated, no_statement, statement}
 use Rattle.sot_rules.specs.declared.fault.TypeKind.{TypeKind}
 use Rattle.sot_rules.specs.declared.fault.TypeKind.TheVariants.{Unknown, ScaleDiffers, KindDiffers, PeriodOutside}
 use Rattle.sot_rules.specs.declared.expressions.sort.Sort.{Sort}
@@ -11,7 +11,7 @@ use Rattle.sot_rules.specs.Sorts.{is_scaled}
 use Rattle.sot_rules.specs.Names.{Thing, Scope, Reading, gives, nothing_at, reading}
 use Rattle.sot_rules.specs.TreeSorts.{has_decimals, sort}
 use Rattle.sot_rules.specs.Tests.{is_off}
-use Rattle.sot_tree.specs.Formed.{IsStatement, IsBlock}
+use Rattle.sot_syntax_tree.specs.Formed.{IsStatement, IsBlock}
 use Rattle.sot_rules.specs.Fails.{StatementFails, BlockFails, TargetFails, no_target, assigned_target, assigned_value, published_target, published_value}
 use Rattle.sot_rules.specs.Fails.{condition_kind, times_decimals, times_off, in_test, in_taken, in_other, in_body, in_statement, in_following}
 use Rattle.sot_typing.specs.Terms.{place_of, deed_of, deeds_of}

@@ -3,10 +3,10 @@ use Rattle.std.proofs.Common.{◌≡◌, ◌<◌, ◌≤◌, ◌==◌, ℤ, pos,
 use Rattle.std.proofs.lemmas.Bool.{not-false, false_from_ne_true}
 use Rattle.std.proofs.lemmas.Int.{ints}
 use Rattle.sot_text.specs.declared.token.Span.{Span}
-use Rattle.sot_tree.specs.declared.tree.Lit.{Lit}
+use Rattle.sot_syntax_tree.specs.declared.tree.Lit.{Lit}
 use Rattle.sot_rules.specs.declared.fault.TypeKind.{TypeKind}
 use Rattle.sot_rules.specs.declared.fault.TypeKind.TheVariants.{ScaleDiffers, PeriodOutside}
-use Rattle.sot_tree.specs.Formed.{IsNumber}
+use Rattle.sot_syntax_tree.specs.Formed.{IsNumber}
 use Rattle.sot_rules.specs.Fails.{TimesFail, period_decimals, offset_decimals, period_off, offset_late}
 use Rattle.sot_rules.specs.TreeSorts.{has_decimals}
 use Rattle.sot_rules.specs.Tests.{is_off, is_late}

@@ -1,8 +1,8 @@
 -- The expressions and statements of tables, without where their parts lie in memory.
 use Rattle.std.specs.Prelude.{ℕ, ℤ, List, [], ◌∷◌}
 use Rattle.sot_text.specs.declared.token.Span.{Span}
-use Rattle.sot_tree.specs.declared.operator.Op.{Op}
-use Rattle.sot_tree.specs.declared.operator.Func.{Func}
+use Rattle.sot_syntax_tree.specs.declared.operator.Op.{Op}
+use Rattle.sot_syntax_tree.specs.declared.operator.Func.{Func}
 use Rattle.sot_lang.specs.declared.term.Term.{Term, Row_of-Term, end_of-Term, more_of-Term}
 use Rattle.sot_lang.specs.declared.term.Term.TheVariants.{Number, Place, Binary', Rest', Neg', Not'}
 use Rattle.sot_lang.specs.declared.term.Term.TheVariants.{Call', Rescale', If'}

@@ -2,12 +2,12 @@
 -- most 6. The parts of a program of the grammar without faults do.
 use Rattle.std.specs.Prelude.{◌≡◌, ℕ, ◌≤◌, ◌≤ℤ◌, false, List, [], ◌∷◌, map, zip, length, Some}
 use Rattle.std.specs.List.{All}
-use Rattle.sot_tree.specs.declared.tree.Bounds.{Bounds}
-use Rattle.sot_tree.specs.declared.tree.Const.{Const}
-use Rattle.sot_tree.specs.declared.tree.Field.{Field}
-use Rattle.sot_tree.specs.declared.tree.StateDecl.{StateDecl}
+use Rattle.sot_syntax_tree.specs.declared.tree.Bounds.{Bounds}
+use Rattle.sot_syntax_tree.specs.declared.tree.Const.{Const}
+use Rattle.sot_syntax_tree.specs.declared.tree.Field.{Field}
+use Rattle.sot_syntax_tree.specs.declared.tree.StateDecl.{StateDecl}
 use Rattle.sot_lang.specs.declared.tables.ScalarInfo.{ScalarInfo}
-use Rattle.sot_tree.specs.Trees.{Form, one, fields, Topic, Local, Area}
+use Rattle.sot_syntax_tree.specs.Trees.{Form, one, fields, Topic, Local, Area}
 use Rattle.sot_rules.specs.Sorts.{state_sort}
 use Rattle.sot_typing.specs.Terms.{sort_scale}
 use Rattle.sot_rules.specs.Tests.{counts_differ, starts}

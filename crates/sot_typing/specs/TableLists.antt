@@ -1,6 +1,6 @@
 -- The lists of a program's tables, as the code fills them.
 use Rattle.std.specs.Prelude.{◌≡◌, [], map, flat_map}
-use Rattle.sot_tree.specs.Trees.{Plant, Node, Program}
+use Rattle.sot_syntax_tree.specs.Trees.{Plant, Node, Program}
 use Rattle.sot_typing.specs.declared.tables.lists.Lists.{Lists}
 use Rattle.sot_typing.specs.Resolved as tables
 use Rattle.sot_typing.specs.Resolved.{PlantTable, NodeTable, topic_info, topic_scalars, plant_seen}

@@ -1,6 +1,6 @@
 -- The names of an owner, as the code keeps them.
 use Rattle.std.specs.Prelude.{◌≤◌, List, map, length, Option}
-use Rattle.sot_tree.specs.declared.tree.Ident.{Ident}
+use Rattle.sot_syntax_tree.specs.declared.tree.Ident.{Ident}
 use Rattle.sot_rules.specs.Names.{Parts, alone, several, Thing, field_part, state_part, reading}
 use Rattle.sot_rules.specs.Names.{reading_sort}
 use Rattle.sot_typing.specs.declared.names.things.Parts.{Parts as KeptParts}

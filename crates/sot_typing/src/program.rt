@@ -1,8 +1,8 @@
 //! A program's tables, or the first rule of typing that it breaks.
 ghost use Rattle.std.specs.Prelude.{◌≡◌, IfOk, IfErr};
-ghost use Rattle.sot_tree.specs.TreeViews.{program_view};
+ghost use Rattle.sot_syntax_tree.specs.TreeViews.{program_view};
 ghost use Rattle.sot_rules.specs.First.{IsFirstFault, IsFaultless};
-ghost use Rattle.sot_tree.specs.Formed.{IsFormed};
+ghost use Rattle.sot_syntax_tree.specs.Formed.{IsFormed};
 ghost use Rattle.sot_rules.specs.declared.fault.TypeFault.{TypeFault as AFault};
 ghost use Rattle.sot_rules.specs.declared.fault.TypeFail.TheVariants.{Fault};
 ghost use Rattle.sot_rules.specs.Indexes.{program_in, IsIndex};
@@ -11,8 +11,8 @@ ghost use Rattle.sot_typing.specs.Resolved.{AreTables};
 use crate::names::numbers::numbers;
 use crate::tables::lists::all_tables;
 use sot_lang::Typed;
-use sot_rules::{Index, TypeFail, first_fault_in};
-use sot_tree::Program;
+use sot_rules::{Index, TypeFail, first_fault};
+use sot_syntax_tree::Program;
 use std::alloc::{AllocError, Global};
 
 // The tables of the program of an index, in which no rule of typing fails.
@@ -36,7 +36,7 @@ fn indexed(alloc: Global, index: &Index) -> Result<Typed, TypeFail>
     ensures fault { IfErr result
         (λ e. (f : AFault) → e ≡ Fault f → IsFirstFault (program_in index.now) f) }
 {
-    if let Some(fault) = first_fault_in(alloc, index)? {
+    if let Some(fault) = first_fault(alloc, index)? {
         return Err(TypeFail::Fault(fault));
     }
     Ok(indexed_tables(alloc, index)?)

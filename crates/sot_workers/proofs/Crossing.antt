@@ -7,7 +7,7 @@ use mir.Syntax.{Sym}
 use denote.Struct.Tuple.{Tuple, TupleAt, field_at, type_at}
 use Rattle.std.proofs.Common.{List, ◌∷◌, []}
 use Rattle.std.proofs.Crossing.{crosses}
-use Rattle.sot_tree.proofs.name.Name.TheSendSync as name
+use Rattle.sot_syntax_tree.proofs.name.Name.TheSendSync as name
 use Rattle.sot_lang.proofs.act.Act.TheLaws.TheKnot as act
 use Rattle.sot_lang.proofs.term.Term.TheLaws.TheKnot as term
 use Rattle.sot_lang.proofs.tables.LocalInfo.TheSendSync as local
@@ -17,7 +17,7 @@ use Rattle.sot_lang.proofs.tables.ScalarInfo.TheSendSync as scalar
 use Rattle.sot_lang.proofs.tables.Slot.TheSendSync as slot
 use Rattle.sot_lang.proofs.tables.StateInfo.TheSendSync as state
 use Rattle.sot_lang.proofs.tables.TopicInfo.TheSendSync as topic
-use Rattle.sot_flat_code.proofs.Crossing.{flat_send}
+use Rattle.sot_eval_flat.proofs.Crossing.{flat_send}
 use Rattle.sot_turn.proofs.turn.Pass.TheSendSync as pass
 use Rattle.sot_turn.proofs.turn.Turn.TheSendSync as turn
 use Rattle.sot_lang.specs.contracts.typed.Typed as Typed
@@ -32,7 +32,7 @@ use Rattle.sot_board.specs.contracts.journal.HistoryEntry as Entry
 use Rattle.sot_board.specs.contracts.journal.BoardJournal.TheImpl.{ghosts}
 use Rattle.sot_turn.specs.contracts.turn.Pass as Pass
 use Rattle.sot_turn.specs.contracts.turn.Turn as Turn
-use Rattle.sot_node_worker.specs.contracts.shift.Shift as Shift
+use Rattle.sot_fly_worker.specs.contracts.shift.Shift as Shift
 
 -- the rows of the tables
 ruleset rows = (local.the_sync, module_info.the_sync, noise.the_sync, scalar.the_sync, slot.the_sync, state.the_sync, topic.the_sync, name.the_sync)

@@ -3,9 +3,9 @@ use Rattle.std.proofs.Common.{◌≡◌, ℕ, ⊎_elim, Option, None, List, [], 
 use Rattle.std.specs.Prelude.{slice_set}
 use Rattle.std.proofs.lemmas.Option.{none-some}
 use Rattle.sot_lang.specs.Tables.{Tables}
-use Rattle.sot_flat_code.specs.declared.flat.Flat.{Flat}
-use Rattle.sot_flat_code.specs.FlatForm.{IsFormOf}
-use Rattle.sot_node_worker.proofs.Turning.{last_or_before}
+use Rattle.sot_eval_flat.specs.declared.flat.Flat.{Flat}
+use Rattle.sot_eval_flat.specs.FlatForm.{IsFormOf}
+use Rattle.sot_fly_worker.proofs.Turning.{last_or_before}
 use Rattle.sot_workers.specs.Forms.{AreFormsOf}
 use Rattle.sot_workers.proofs.ListFacts.{at_set_cases}
 

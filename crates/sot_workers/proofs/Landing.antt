@@ -10,9 +10,9 @@ use Rattle.sot_turn.specs.Prefixes.{IsPrefix}
 use Rattle.sot_board.specs.Flown.{Position, FlownSoFar, FlownBy}
 use Rattle.sot_board.specs.Standing.{Standing}
 use Rattle.sot_board.specs.Versions.{drafts_of}
-use Rattle.sot_node_worker.specs.Askings.{Asking}
-use Rattle.sot_node_worker.specs.Answers.{Answered}
-use Rattle.sot_node_worker.proofs.Histories.{whole_histories_end}
+use Rattle.sot_fly_worker.specs.Askings.{Asking}
+use Rattle.sot_fly_worker.specs.Answers.{Answered}
+use Rattle.sot_fly_worker.proofs.Histories.{whole_histories_end}
 use Rattle.sot_workers.specs.declared.lists.NodeList.{NodeList}
 use Rattle.sot_workers.specs.declared.place.Done.{Done}
 use Rattle.sot_workers.specs.Flying.{IsUnnamed}

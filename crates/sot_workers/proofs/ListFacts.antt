@@ -14,8 +14,8 @@ use Rattle.sot_workers.specs.declared.lists.NodeList.{NodeList}
 use Rattle.sot_workers.specs.Flying.{IsMine}
 use Rattle.sot_workers.specs.Instants.{IsSameInstant, AddsNoFiring, AddsFiring}
 use Rattle.sot_workers.specs.Lists.{HasNodes, AreMine, AreEmpty, KeepsLists}
-use Rattle.sot_node_worker.proofs.Firing.{in_step}
-use Rattle.sot_node_worker.proofs.Turning.{last_or_before}
+use Rattle.sot_fly_worker.proofs.Firing.{in_step}
+use Rattle.sot_fly_worker.proofs.Turning.{last_or_before}
 use Rattle.sot_workers.proofs.Histories.{one_more, no_more}
 
 pub at_set_cases : {A : Type 0} (xs : List A) (k i : ℕ) (v y : A) → At (slice_set xs k v) i y → ((i ≡ k) × (y ≡ v)) ⊎ ((i ≢ k) × At xs i y)

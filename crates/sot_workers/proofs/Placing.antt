@@ -11,11 +11,11 @@ use Rattle.sot_turn.specs.Prefixes.{IsPrefix}
 use Rattle.sot_turn.specs.Passes.{pass_seen}
 use Rattle.sot_board.specs.Flown.{FlownSoFar, FlownBy}
 use Rattle.sot_board.specs.Versions.{drafts_of}
-use Rattle.sot_node_worker.specs.declared.shift.Shift.{Shift}
-use Rattle.sot_node_worker.specs.Askings.{Asking}
-use Rattle.sot_node_worker.specs.Answers.{Answered}
-use Rattle.sot_node_worker.specs.Shifts.{EachGuest, IsOnShift}
-use Rattle.sot_node_worker.proofs.Histories.{whole_histories_end}
+use Rattle.sot_fly_worker.specs.declared.shift.Shift.{Shift}
+use Rattle.sot_fly_worker.specs.Askings.{Asking}
+use Rattle.sot_fly_worker.specs.Answers.{Answered}
+use Rattle.sot_fly_worker.specs.Shifts.{EachGuest, IsOnShift}
+use Rattle.sot_fly_worker.proofs.Histories.{whole_histories_end}
 use Rattle.sot_workers.specs.declared.lists.NodeList.{NodeList}
 use Rattle.sot_workers.specs.declared.place.Place.{Place}
 use Rattle.sot_workers.specs.declared.place.Place.TheVariants.{Stays, Out, Here}

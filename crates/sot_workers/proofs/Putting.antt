@@ -8,7 +8,7 @@ use Rattle.sot_tube.specs.Admitted.{Admitted}
 use Rattle.sot_world.specs.HistoryEntry.{Logged}
 use Rattle.sot_flight.specs.Plans.{Plan, Guest}
 use Rattle.sot_board.specs.Versions.{drafts_of}
-use Rattle.sot_node_worker.specs.Askings.{Asking}
+use Rattle.sot_fly_worker.specs.Askings.{Asking}
 use Rattle.sot_workers.specs.declared.lists.NodeList.{NodeList}
 use Rattle.sot_workers.specs.declared.place.Done.{Done}
 use Rattle.sot_workers.specs.Lists.{HasNodes, AreOwnLists}

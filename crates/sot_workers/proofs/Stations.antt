@@ -6,7 +6,7 @@ use Rattle.std.proofs.lemmas.Bool.{cases_eq}
 use Rattle.std.proofs.lemmas.Option.{same_Some}
 use Rattle.atomic_table.specs.Seated.{TableId}
 use Rattle.sot_lists.specs.Places.{At}
-use Rattle.sot_flat_code.specs.FlatForm.{IsFormOf}
+use Rattle.sot_eval_flat.specs.FlatForm.{IsFormOf}
 use Rattle.sot_tube.specs.Admitted.{Admitted}
 use Rattle.sot_world.specs.HistoryEntry.{Logged}
 use Rattle.sot_flight.specs.Plans.{Plan}
@@ -14,9 +14,9 @@ use Rattle.sot_turn.specs.Prefixes.{IsPrefix}
 use Rattle.sot_turn.specs.Passes.{pass_lock, pass_ground, pass_seen}
 use Rattle.sot_board.specs.Flown.{FlownBy}
 use Rattle.sot_board.specs.Versions.{drafts_of}
-use Rattle.sot_node_worker.specs.declared.shift.Shift.{Shift}
-use Rattle.sot_node_worker.specs.Askings.{Asking}
-use Rattle.sot_node_worker.specs.Shifts.{HasItsGuest, IsOnShift}
+use Rattle.sot_fly_worker.specs.declared.shift.Shift.{Shift}
+use Rattle.sot_fly_worker.specs.Askings.{Asking}
+use Rattle.sot_fly_worker.specs.Shifts.{HasItsGuest, IsOnShift}
 use Rattle.sot_workers.specs.declared.lists.NodeList.{NodeList}
 use Rattle.sot_workers.specs.declared.place.Station.{Station}
 use Rattle.sot_workers.specs.declared.place.Station.TheVariants.{Caller, Refused, Thread}

@@ -4,8 +4,8 @@ use Rattle.sot_lists.specs.Places.{At}
 use Rattle.sot_tube.specs.Admitted.{Admitted}
 use Rattle.sot_world.specs.HistoryEntry.{Logged}
 use Rattle.sot_flight.specs.Plans.{Plan, Guest}
-use Rattle.sot_node_worker.specs.Askings.{Asking}
-use Rattle.sot_node_worker.specs.Answers.{Answered}
+use Rattle.sot_fly_worker.specs.Askings.{Asking}
+use Rattle.sot_fly_worker.specs.Answers.{Answered}
 use Rattle.sot_workers.specs.Flying.{IsUnnamed}
 
 module _ {C : Type 0} where

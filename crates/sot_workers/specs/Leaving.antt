@@ -4,7 +4,7 @@ use Rattle.atomic_table.specs.Seated.{TableId}
 use Rattle.sot_tube.specs.Admitted.{Admitted}
 use Rattle.sot_flight.specs.Plans.{Plan}
 use Rattle.sot_turn.specs.Passes.{pass_lock, pass_ground, pass_seen}
-use Rattle.sot_node_worker.specs.Askings.{Asking}
+use Rattle.sot_fly_worker.specs.Askings.{Asking}
 use Rattle.sot_workers.specs.declared.crewed.Leaving.{Leaving}
 use Rattle.sot_workers.specs.declared.crewed.Landed.{Landed}
 use Rattle.sot_workers.specs.Forms.{AreFormsOf}

@@ -9,10 +9,10 @@ use Rattle.sot_turn.specs.Prefixes.{IsPrefix}
 use Rattle.sot_turn.specs.Passes.{pass_ground}
 use Rattle.sot_board.specs.Flown.{FlownBy}
 use Rattle.sot_board.specs.Versions.{drafts_of}
-use Rattle.sot_node_worker.specs.declared.shift.Shift.{Shift}
-use Rattle.sot_node_worker.specs.Askings.{Asking}
-use Rattle.sot_node_worker.specs.Answers.{Answered}
-use Rattle.sot_node_worker.specs.Shifts.{IsReady, IsOnShift, HasWorked}
+use Rattle.sot_fly_worker.specs.declared.shift.Shift.{Shift}
+use Rattle.sot_fly_worker.specs.Askings.{Asking}
+use Rattle.sot_fly_worker.specs.Answers.{Answered}
+use Rattle.sot_fly_worker.specs.Shifts.{IsReady, IsOnShift, HasWorked}
 use Rattle.sot_workers.specs.declared.lists.NodeList.{NodeList}
 use Rattle.sot_workers.specs.declared.place.Job.{Job}
 use Rattle.sot_workers.specs.declared.place.Job.TheVariants as job

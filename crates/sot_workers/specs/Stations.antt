@@ -7,8 +7,8 @@ use Rattle.sot_world.specs.HistoryEntry.{Logged}
 use Rattle.sot_flight.specs.Plans.{Plan}
 use Rattle.sot_turn.specs.Passes.{pass_lock, pass_ground}
 use Rattle.sot_board.specs.Versions.{drafts_of}
-use Rattle.sot_node_worker.specs.declared.shift.Shift.{Shift}
-use Rattle.sot_node_worker.specs.Shifts.{IsReady}
+use Rattle.sot_fly_worker.specs.declared.shift.Shift.{Shift}
+use Rattle.sot_fly_worker.specs.Shifts.{IsReady}
 use Rattle.sot_workers.specs.declared.lists.NodeList.{NodeList}
 use Rattle.sot_workers.specs.declared.place.Station.{Station}
 use Rattle.sot_workers.specs.declared.place.Station.TheVariants.{Caller, Refused, Thread}

@@ -11,7 +11,7 @@ ghost use Rattle.sot_workers.specs.Back.{IsGuestBack, FliesOnce, AreListsBack, l
 
 use crate::lists::NodeList;
 use crate::place::Done;
-use sot_node_worker::Controller;
+use sot_fly_worker::Controller;
 
 /// The list of a node comes back to its place.
 pub(crate) fn put_list(lists: &mut Vec<NodeList>, list: Option<NodeList>)

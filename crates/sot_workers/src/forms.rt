@@ -1,11 +1,11 @@
 //! Bodies in flat form, for the workers that are to have threads.
 
 ghost use Rattle.std.specs.Prelude.{◌≡◌, ◌<◌, length, IfOk};
-ghost use Rattle.sot_flat_code.specs.FlatForm.{IsFormOf};
+ghost use Rattle.sot_eval_flat.specs.FlatForm.{IsFormOf};
 ghost use Rattle.sot_workers.specs.Forms.{AreFormsOf};
 
 use crate::station::{is_long, is_to_leave};
-use sot_flat_code::{Flat, form_of};
+use sot_eval_flat::{Flat, form_of};
 use sot_flight::Flight;
 use sot_lang::Typed;
 use std::alloc::{AllocError, Global};

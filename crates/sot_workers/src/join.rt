@@ -6,14 +6,14 @@ ghost use Rattle.sot_world.specs.HistoryEntry.{Logged};
 ghost use Rattle.sot_flight.specs.Plans.{Plan};
 ghost use Rattle.sot_turn.specs.Prefixes.{IsPrefix};
 ghost use Rattle.sot_turn.specs.Passes.{lock_of, pass_lock, pass_ground, pass_seen};
-ghost use Rattle.sot_node_worker.specs.Shifts.{IsOnShift};
+ghost use Rattle.sot_fly_worker.specs.Shifts.{IsOnShift};
 ghost use Rattle.sot_workers.specs.Pairs.{EachFrom};
 ghost use Rattle.sot_workers.specs.Sent.{IsShiftOf, IsPlaced, IsDone, HasSeenWhole};
 
 use crate::lists::NodeList;
 use crate::place::{Done, Place};
 use sot_board::Board;
-use sot_node_worker::{Bells, Controller, Shift, take_turn};
+use sot_fly_worker::{Bells, Controller, Shift, take_turn};
 use sot_turn::{Pass, Turn};
 use std::sync::Wait;
 use std::thread::Threads;

@@ -6,8 +6,8 @@ ghost use Rattle.sot_lang.specs.declared.tables.NodeInfo.{NodeInfo};
 ghost use Rattle.sot_workers.specs.Lists.{AreEmpty};
 
 use sot_calendar::firings;
+use sot_fly_worker::stop;
 use sot_lang::{Draft, NodeInfo, Typed};
-use sot_node_worker::stop;
 use std::alloc::{AllocError, Global};
 use std::sync::Wait;
 

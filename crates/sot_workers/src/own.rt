@@ -15,7 +15,7 @@ use crate::instant::{decide_all, fire, take_inputs};
 use crate::lists::NodeList;
 use sot_board::Board;
 use sot_flight::Flight;
-use sot_node_worker::{Bells, stop};
+use sot_fly_worker::{Bells, stop};
 use std::sync::Wait;
 
 // Whether a node is noted to have a thread.

@@ -2,7 +2,7 @@
 
 use crate::lists::NodeList;
 use sot_board::Board;
-use sot_node_worker::{Controller, Shift, Works};
+use sot_fly_worker::{Controller, Shift, Works};
 use sot_turn::Pass;
 use std::thread::PromisedHandle;
 

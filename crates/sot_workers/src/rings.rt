@@ -3,7 +3,7 @@
 ghost use Rattle.std.specs.Prelude.{◌<◌, length};
 
 use sot_board::Board;
-use sot_node_worker::{Bells, next_to_fire};
+use sot_fly_worker::{Bells, next_to_fire};
 use std::alloc::{AllocError, Global};
 
 /// For whom the caller rings once it has given its turn back, and for which firing of each node it

@@ -10,10 +10,10 @@ use crate::lists::{NodeList, no_lists};
 use crate::place::{Done, Place, Station};
 use crate::rings::Rings;
 use crate::rule::{are_few, long_each};
-use sot_flat_code::Flat;
+use sot_eval_flat::Flat;
 use sot_flight::Flight;
+use sot_fly_worker::Controller;
 use sot_lang::Typed;
-use sot_node_worker::Controller;
 use std::alloc::{AllocError, Global};
 
 /// The memory of a flight but for the lock and the bells: the lists, which nodes are worth a

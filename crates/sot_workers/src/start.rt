@@ -4,7 +4,7 @@ ghost use Rattle.std.specs.Prelude.{◌≡◌, ◌<◌, ◌≤◌, ℕ, [], leng
 ghost use Rattle.sot_tube.specs.Admitted.{Admitted};
 ghost use Rattle.sot_flight.specs.Plans.{Plan};
 ghost use Rattle.sot_turn.specs.Passes.{lock_of, pass_lock, pass_ground, pass_seen};
-ghost use Rattle.sot_node_worker.specs.Shifts.{IsReady, HasWorked};
+ghost use Rattle.sot_fly_worker.specs.Shifts.{IsReady, HasWorked};
 ghost use Rattle.sot_workers.specs.Lists.{AreEmpty};
 ghost use Rattle.sot_workers.specs.Pairs.{EachFrom};
 ghost use Rattle.sot_workers.specs.Sent.{IsJob, IsStarted, IsPlaced};
@@ -14,7 +14,7 @@ use crate::place::{Job, Place};
 use crate::seat::job_of;
 use sot_board::Board;
 use sot_flight::Flight;
-use sot_node_worker::{Bells, Controller, Shift, Works, work};
+use sot_fly_worker::{Bells, Controller, Shift, Works, work};
 use sot_turn::{Pass, Turn};
 use std::alloc::Global;
 use std::snapshot::Snapshot;

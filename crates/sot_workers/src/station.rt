@@ -1,10 +1,10 @@
 //! Starting the workers of nodes that no guest flies.
 
 ghost use Rattle.std.specs.Prelude.{◌≡◌, ◌<◌, ◌≤◌, ℕ, [], length, vec_capacity, true, Some};
-ghost use Rattle.sot_flat_code.specs.FlatForm.{IsFormOf};
+ghost use Rattle.sot_eval_flat.specs.FlatForm.{IsFormOf};
 ghost use Rattle.sot_tube.specs.Admitted.{Admitted};
 ghost use Rattle.sot_turn.specs.Passes.{lock_of, pass_lock, pass_ground, pass_seen};
-ghost use Rattle.sot_node_worker.specs.Shifts.{IsReady, HasWorked};
+ghost use Rattle.sot_fly_worker.specs.Shifts.{IsReady, HasWorked};
 ghost use Rattle.sot_workers.specs.Flying.{IsOwn};
 ghost use Rattle.sot_workers.specs.Forms.{AreFormsOf};
 ghost use Rattle.sot_workers.specs.Lists.{AreEmpty};
@@ -16,9 +16,9 @@ use crate::place::{Place, Station};
 use crate::seat::{give_list, take_form, take_list};
 use crate::start::start;
 use sot_board::Board;
-use sot_flat_code::Flat;
+use sot_eval_flat::Flat;
 use sot_flight::Flight;
-use sot_node_worker::{Bells, Controller, Shift, stop};
+use sot_fly_worker::{Bells, Controller, Shift, stop};
 use sot_turn::{Pass, Turn};
 use std::alloc::Global;
 use std::sync::Wait;

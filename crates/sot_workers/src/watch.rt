@@ -17,7 +17,7 @@ use crate::own::{compare, work_on};
 use crate::place::Place;
 use crate::rings::Rings;
 use sot_board::Board;
-use sot_node_worker::{Bells, Controller, take_turn};
+use sot_fly_worker::{Bells, Controller, take_turn};
 use sot_turn::{Pass, Turn};
 use std::sync::Wait;
 

@@ -8,13 +8,13 @@ use Rattle.sot_lang.specs.declared.tables.ModuleInfo.{ModuleInfo}
 use Rattle.sot_lang.specs.Tables.{Tables}
 use Rattle.sot_tube.specs.Admitted.{Admitted}
 use Rattle.sot_tube.specs.Tubes.{Keeps}
-use Rattle.sot_world.specs.declared.answers.Answer.{Answer}
-use Rattle.sot_world.specs.declared.answers.Answer.TheVariants.{Given}
+use Rattle.sot_world.specs.declared.answers.KeepsAnswer.{KeepsAnswer}
+use Rattle.sot_world.specs.declared.answers.KeepsAnswer.TheVariants.{Given}
 use Rattle.sot_world.specs.Answers.{IsRight}
 
 -- one right answer more
-pub stay_right : (acc : Admitted) (xs : List Answer) (k : ℕ) (x : Answer) → ((i : ℕ) (y : Answer) → At xs i y → IsRight acc y) → IsRight acc x
-    → (i : ℕ) (y : Answer) → At (slice_set xs k x) i y → IsRight acc y
+pub stay_right : (acc : Admitted) (xs : List KeepsAnswer) (k : ℕ) (x : KeepsAnswer) → ((i : ℕ) (y : KeepsAnswer) → At xs i y → IsRight acc y) → IsRight acc x
+    → (i : ℕ) (y : KeepsAnswer) → At (slice_set xs k x) i y → IsRight acc y
 stay_right acc [] k x h r i y at = h i y at
 stay_right acc (z ∷ zs) zero x h r zero y at = subst (IsRight acc) (same_Some x y at) r
 stay_right acc (z ∷ zs) zero x h r (suc i) y at = h (suc i) y at
@@ -31,7 +31,7 @@ said_of acc now p cert m s kept ep ec en h =
     (subst (λ q. (a : ModuleInfo) → At q.modules m a → IsTrue kept ↔ Keeps q cert.jitter a s) ep h))
 
 -- what a right answer says of a module at a point is right
-pub recalled : (acc now : Admitted) (answer : Answer) (m : ℕ) (s : List ℤ) (o : Option Bool) → acc ≡ now → IsRight acc answer
+pub recalled : (acc now : Admitted) (answer : KeepsAnswer) (m : ℕ) (s : List ℤ) (o : Option Bool) → acc ≡ now → IsRight acc answer
     → IfSome o (λ kept. answer ≡ Given kept m s) → IfSome o (λ kept. IsRight now (Given kept m s))
 recalled acc now answer m s None en r is = tt
 recalled acc now answer m s (Some kept) en r is = subst (λ n. IsRight n (Given kept m s)) en (subst (IsRight acc) is r)

@@ -2,7 +2,7 @@
 use Rattle.std.specs.Prelude.{ℕ, ℤ, pos, negsuc, true, false, Some, None, List, [], ◌∷◌}
 use Rattle.std.proofs.Common.{refl}
 use Rattle.std.specs.Global.{Global}
-use Rattle.sot_tree.specs.declared.operator.Op.TheVariants.{Add, Div}
+use Rattle.sot_syntax_tree.specs.declared.operator.Op.TheVariants.{Add, Div}
 use Rattle.sot_lang.specs.declared.term.Term.TheVariants.{Number, Place, Binary'}
 use Rattle.sot_lang.specs.declared.act.Act.{Act}
 use Rattle.sot_lang.specs.declared.act.Act.TheVariants.{Assign, Publish}

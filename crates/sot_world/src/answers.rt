@@ -7,7 +7,7 @@ ghost use Rattle.sot_lang.specs.declared.tables.ModuleInfo.{ModuleInfo};
 ghost use Rattle.sot_box.specs.Boxes.{point_box};
 ghost use Rattle.sot_tube.specs.Calls.{MayFollow};
 ghost use Rattle.sot_tube.specs.Tubes.{Keeps};
-ghost use Rattle.sot_world.specs.declared.answers.Answer.TheVariants.{Given};
+ghost use Rattle.sot_world.specs.declared.answers.KeepsAnswer.TheVariants.{Given};
 ghost use Rattle.sot_world.specs.Answers.{IsRight};
 
 use sot_box::Point;
@@ -18,7 +18,7 @@ use std::marker::Model;
 
 /// Whether a module keeps its plant safe from a point on, as it was answered, or nothing yet.
 #[derive(Clone, Copy)]
-pub enum Answer {
+pub enum KeepsAnswer {
     Nothing,
     Given {
         kept: bool,
@@ -32,14 +32,14 @@ pub enum Answer {
 #[derive(Drop)]
 pub struct Answers<'a> {
     accepted: &'a Accepted<'a>,
-    given: Vec<Answer>,
+    given: Vec<KeepsAnswer>,
 }
 
 impl<'a> Model for Answers<'a> {
     ghost use Rattle.std.specs.Prelude.{ℕ};
     ghost use Rattle.sot_lists.specs.Places.{At};
     ghost use Rattle.sot_tube.specs.Admitted.{Admitted};
-    ghost use Rattle.sot_world.specs.declared.answers.Answer.{Answer as AnAnswer};
+    ghost use Rattle.sot_world.specs.declared.answers.KeepsAnswer.{KeepsAnswer as AnAnswer};
     ghost use Rattle.sot_world.specs.Answers.{IsRight};
     ghost use Rattle.sot_lang.specs.contracts.term.Term as term;
     ghost use Rattle.sot_lang.specs.contracts.act.Act as act;
@@ -85,11 +85,11 @@ fn is_same(a: &Point, b: &Point) -> bool
 }
 
 // What an answer says of a module at a point, if it is one of them.
-fn told(answer: &Answer, module: u32, s: &Point) -> Option<bool>
+fn told(answer: &KeepsAnswer, module: u32, s: &Point) -> Option<bool>
     ensures { IfSome result (λ kept. answer.now ≡ Given kept «module» s.now) }
 {
     match answer {
-        Answer::Given {
+        KeepsAnswer::Given {
             kept,
             module: asked,
             point,
@@ -100,7 +100,7 @@ fn told(answer: &Answer, module: u32, s: &Point) -> Option<bool>
                 None
             }
         }
-        Answer::Nothing => None,
+        KeepsAnswer::Nothing => None,
     }
 }
 
@@ -112,7 +112,7 @@ impl<'a> Answers<'a> {
         let places = acc.typed().modules.len() * PLACES;
         Ok(Answers {
             accepted: acc,
-            given: Vec::from_elem(alloc, Answer::Nothing, places)?,
+            given: Vec::from_elem(alloc, KeepsAnswer::Nothing, places)?,
         })
     }
 
@@ -150,7 +150,7 @@ impl<'a> Answers<'a> {
             self.accepted.cert().jitter,
         );
         if place < self.given.len() {
-            self.given[place] = Answer::Given {
+            self.given[place] = KeepsAnswer::Given {
                 kept,
                 module,
                 point: *s,

@@ -1,15 +1,15 @@
 //! What stands behind a place of the text. Once a fault is known, no fault behind it is the first
 //! one.
 ghost use Rattle.std.specs.Prelude.{◌≡◌, ◌&&◌, map};
-ghost use Rattle.sot_tree.specs.TreeViews.{local_view, next_view};
+ghost use Rattle.sot_syntax_tree.specs.TreeViews.{local_view, next_view};
 ghost use Rattle.sot_rules.specs.Behind.{bounds_behind, scalar_behind, local_behind, locals_behind};
 ghost use Rattle.sot_rules.specs.Behind.{nexts_behind, noise_behind};
 
 use crate::declarations::range::const_place;
 use crate::expressions::behind::is_tree_behind;
 use crate::fault::is_behind;
+use sot_syntax_tree::{Bounds, Field, LocalDecl, NextDecl, Scalar};
 use sot_text::Span;
-use sot_tree::{Bounds, Field, LocalDecl, NextDecl, Scalar};
 
 fn are_bounds_behind(b: Bounds, from: Span) -> bool
     ensures { result ≡ bounds_behind from b }

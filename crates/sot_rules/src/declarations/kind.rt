@@ -1,12 +1,12 @@
 //! The kinds of declarations, and limits on how many there are of each.
 ghost use Rattle.std.specs.Prelude.{◌≡◌, map, filter_map, option_map};
-ghost use Rattle.sot_tree.specs.TreeViews.{declaration_view};
+ghost use Rattle.sot_syntax_tree.specs.TreeViews.{declaration_view};
 ghost use Rattle.sot_rules.specs.Lists.{places};
 ghost use Rattle.sot_rules.specs.Faults.{least, past};
 ghost use Rattle.sot_rules.specs.Kinds.{name_of};
 
 use crate::fault::{TypeFault, TypeKind, note};
-use sot_tree::{Decl, Ident};
+use sot_syntax_tree::{Decl, Ident};
 
 /// The kinds of declarations.
 #[derive(Clone, Copy)]

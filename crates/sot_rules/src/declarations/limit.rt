@@ -1,7 +1,7 @@
 //! Limits on how many items a list has, and on how much its names stand for.
 ghost use Rattle.std.specs.Prelude.{◌≡◌, ℕ, map, true};
-ghost use Rattle.sot_tree.specs.TreeViews.{area_view};
-ghost use Rattle.sot_tree.specs.declared.tree.Ident.{Ident};
+ghost use Rattle.sot_syntax_tree.specs.TreeViews.{area_view};
+ghost use Rattle.sot_syntax_tree.specs.declared.tree.Ident.{Ident};
 ghost use Rattle.sot_rules.specs.Names.{meaning};
 ghost use Rattle.sot_rules.specs.Lists.{places};
 ghost use Rattle.sot_rules.specs.Faults.{least, past, passes};
@@ -12,7 +12,7 @@ use crate::fault::{TypeFault, TypeKind, is_past, note};
 use crate::names::index::Index;
 use crate::names::meaning::size_of;
 use sot_names::Named;
-use sot_tree::{BoxDecl, Ident};
+use sot_syntax_tree::{BoxDecl, Ident};
 
 /// The first item of a list past a limit.
 pub fn note_past<T: Named>(limit: usize, items: &[T], first: &mut Option<TypeFault>)

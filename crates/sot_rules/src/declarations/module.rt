@@ -1,6 +1,6 @@
 //! The faults of a module.
 ghost use Rattle.std.specs.Prelude.{◌≡◌};
-ghost use Rattle.sot_tree.specs.TreeViews.{module_view};
+ghost use Rattle.sot_syntax_tree.specs.TreeViews.{module_view};
 ghost use Rattle.sot_rules.specs.Faults.{least, together, module_lists};
 ghost use Rattle.sot_rules.specs.Indexes.{program_in, IsIndex};
 ghost use Rattle.sot_rules.specs.Groups.{nodes_faults};
@@ -11,7 +11,7 @@ use crate::fault::{TypeFault, TypeKind, note};
 use crate::names::index::Index;
 use crate::names::meaning::{is_external, is_neither, is_node, is_topic, states_of};
 use sot_names::are_same;
-use sot_tree::ModuleDecl;
+use sot_syntax_tree::ModuleDecl;
 
 // The two nodes of a module.
 #[tactic(auto, using(crate::proofs::Least::least_append))]

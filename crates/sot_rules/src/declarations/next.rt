@@ -1,7 +1,7 @@
 //! The faults of a plant's `next` clauses.
 ghost use Rattle.std.specs.Prelude.{◌≡◌, [], true, length, map, flat_map, nat_lt, slice_get, OnOk};
-ghost use Rattle.sot_tree.specs.Trees.{Program};
-ghost use Rattle.sot_tree.specs.TreeViews.{next_view, plant_view};
+ghost use Rattle.sot_syntax_tree.specs.Trees.{Program};
+ghost use Rattle.sot_syntax_tree.specs.TreeViews.{next_view, plant_view};
 ghost use Rattle.sot_rules.specs.declared.fault.TypeKind.TheVariants.{NextMissing};
 ghost use Rattle.sot_rules.specs.Tests.{is_state};
 ghost use Rattle.sot_rules.specs.Faults.{least, order_faults, when};
@@ -19,8 +19,8 @@ use crate::names::owner::{add_plant, no_names, plant_hasher};
 use crate::names::scope::Names;
 use crate::statements::statement::{note_target, reading_alone};
 use sot_names::{are_same, hasher_beyond_few};
+use sot_syntax_tree::{Ident, NextDecl, PlantDecl, StateDecl};
 use sot_text::Span;
-use sot_tree::{Ident, NextDecl, PlantDecl, StateDecl};
 use std::alloc::{AllocError, Global};
 
 // A `next` clause, over the names that it uses and those that it may give.

@@ -1,7 +1,7 @@
 //! The faults of a node.
 ghost use Rattle.std.specs.Prelude.{◌≡◌, ◌++◌, ◌&&◌, [], map, flat_map, true, false, IfOk, OnOk};
-ghost use Rattle.sot_tree.specs.TreeViews.{local_view, node_view};
-ghost use Rattle.sot_tree.specs.Trees.{Node};
+ghost use Rattle.sot_syntax_tree.specs.TreeViews.{local_view, node_view};
+ghost use Rattle.sot_syntax_tree.specs.Trees.{Node};
 ghost use Rattle.sot_rules.specs.Faults.{least, together, read_faults, write_lists, local_lists};
 ghost use Rattle.sot_rules.specs.Faults.{node_lists};
 ghost use Rattle.sot_names.specs.NameSets.{keys_in};
@@ -23,8 +23,8 @@ use crate::statements::body::note_body;
 use sot_names::{
     FEW, NameHasher, NameKey, NameSet, add_names, has_name, hasher_beyond_few, no_name,
 };
+use sot_syntax_tree::{Ident, LocalDecl, NodeDecl};
 use sot_text::Span;
-use sot_tree::{Ident, LocalDecl, NodeDecl};
 use std::alloc::{AllocError, Global};
 
 // A name among those that a node reads. It is not looked up where its fault would not be the first.

@@ -1,7 +1,7 @@
 //! The faults of a plant.
 ghost use Rattle.std.specs.Prelude.{◌≡◌, ◌++◌, [], flat_map, true, false, IfOk, OnOk};
-ghost use Rattle.sot_tree.specs.Trees.{Plant};
-ghost use Rattle.sot_tree.specs.TreeViews.{plant_view};
+ghost use Rattle.sot_syntax_tree.specs.Trees.{Plant};
+ghost use Rattle.sot_syntax_tree.specs.TreeViews.{plant_view};
 ghost use Rattle.sot_rules.specs.Tests.{state_names};
 ghost use Rattle.sot_rules.specs.Faults.{least, together, scale_faults, input_faults, seen_lists};
 ghost use Rattle.sot_rules.specs.Faults.{noise_lists, plant_lists};
@@ -24,7 +24,7 @@ use crate::names::repeats::{note_repeated_names, note_repeats};
 use sot_names::{
     FEW, NameHasher, NameKey, NameSet, add_names, are_same, has_name, hasher_beyond_few, no_name,
 };
-use sot_tree::{Field, Ident, Lit, PlantDecl, StateDecl};
+use sot_syntax_tree::{Field, Ident, Lit, PlantDecl, StateDecl};
 use std::alloc::{AllocError, Global};
 
 fn note_scale(scale: Option<Lit>, first: &mut Option<TypeFault>)

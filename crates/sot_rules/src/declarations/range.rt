@@ -9,8 +9,8 @@ ghost use Rattle.sot_rules.specs.Faults.{times_faults};
 use crate::expressions::sort::{Sort, differ, has_decimals, is_no_scale, scale_sort};
 use crate::fault::{TypeFault, TypeKind, note};
 use crate::statements::statement::{is_off, note_target};
+use sot_syntax_tree::{Bounds, Const, Lit, Scalar};
 use sot_text::Span;
-use sot_tree::{Bounds, Const, Lit, Scalar};
 
 // Ends of one scale, of which the lower is above the upper.
 fn is_empty(b: Bounds) -> bool

@@ -1,7 +1,7 @@
 //! The faults of a region's boxes.
 ghost use Rattle.std.specs.Prelude.{◌≡◌, false, length, map, zip, flat_map};
-ghost use Rattle.sot_tree.specs.TreeViews.{area_view};
-ghost use Rattle.sot_tree.specs.declared.tree.Bounds.{Bounds};
+ghost use Rattle.sot_syntax_tree.specs.TreeViews.{area_view};
+ghost use Rattle.sot_syntax_tree.specs.declared.tree.Bounds.{Bounds};
 ghost use Rattle.sot_rules.specs.declared.expressions.sort.Sort.{Sort};
 ghost use Rattle.sot_rules.specs.declared.expressions.sort.Sort.TheVariants.{Anything};
 ghost use Rattle.sot_rules.specs.Sorts.{state_sort};
@@ -13,7 +13,7 @@ use crate::declarations::range::note_bounds;
 use crate::expressions::sort::Sort;
 use crate::fault::{TypeFault, TypeKind, note};
 use crate::names::index::state_sort;
-use sot_tree::{Bounds, BoxDecl, StateDecl};
+use sot_syntax_tree::{Bounds, BoxDecl, StateDecl};
 
 // The sides of a box whose plant is not known, or that has not one side a state variable.
 fn note_free_sides(sides: &[Bounds], first: &mut Option<TypeFault>)

@@ -1,7 +1,7 @@
 //! The faults of a topic.
 ghost use Rattle.std.specs.Prelude.{◌≡◌, ◌<◌, map, zip, length, true, slice_get, flat_map, Some};
 ghost use Rattle.std.specs.Prelude.{OnOk};
-ghost use Rattle.sot_tree.specs.TreeViews.{shape_view, init_view, topic_view};
+ghost use Rattle.sot_syntax_tree.specs.TreeViews.{shape_view, init_view, topic_view};
 ghost use Rattle.sot_rules.specs.Tests.{form_scalars, start_values, start_place};
 ghost use Rattle.sot_rules.specs.Faults.{least, together, scalar_faults, start_faults, topic_lists};
 ghost use Rattle.sot_rules.specs.Groups.{names_faults, starts_faults};
@@ -10,8 +10,8 @@ use crate::declarations::limit::note_past;
 use crate::declarations::range::{const_place, note_scalar, note_start};
 use crate::fault::{TypeFault, TypeKind, note};
 use crate::names::repeats::note_repeats;
+use sot_syntax_tree::{Const, Field, Init, Scalar, Shape, TopicDecl};
 use sot_text::Span;
-use sot_tree::{Const, Field, Init, Scalar, Shape, TopicDecl};
 use std::alloc::{AllocError, Global};
 
 /// How many scalars a topic has.

@@ -1,11 +1,11 @@
 //! Whether an expression stands behind a place of the text.
 ghost use Rattle.std.specs.Prelude.{◌≡◌, ◌&&◌, Some};
-ghost use Rattle.sot_tree.specs.TreeViews.{tree_view, parts_view};
+ghost use Rattle.sot_syntax_tree.specs.TreeViews.{tree_view, parts_view};
 ghost use Rattle.sot_rules.specs.Behind.{is_behind, field_behind, tree_behind, trees_behind};
 
 use crate::fault::is_behind;
+use sot_syntax_tree::{Expr, Member};
 use sot_text::Span;
-use sot_tree::{Expr, Member};
 
 /// Whether both names stand behind a place.
 pub fn is_member_behind(member: &Member, from: Span) -> bool

@@ -1,6 +1,6 @@
 //! The sort of an expression, and the faults inside it.
 ghost use Rattle.std.specs.Prelude.{◌≡◌, ◌||◌, ◌++◌, fold, nat_abs};
-ghost use Rattle.sot_tree.specs.TreeViews.{tree_view, parts_view};
+ghost use Rattle.sot_syntax_tree.specs.TreeViews.{tree_view, parts_view};
 ghost use Rattle.sot_rules.specs.Sorts.{unless, given, kinds_misfit, scales_misfit, operator_sort};
 ghost use Rattle.sot_rules.specs.Sorts.{differ, branches_misfit, is_truthful, is_scaled};
 ghost use Rattle.sot_rules.specs.Names.{reading_sort};
@@ -19,8 +19,8 @@ use crate::expressions::sort::{
 };
 use crate::fault::{TypeFault, TypeKind, note};
 use crate::names::scope::{Names, reading};
+use sot_syntax_tree::{Expr, Lit, Op};
 use sot_text::Span;
-use sot_tree::{Expr, Lit, Op};
 
 /// The two rules on operands.
 #[tactic(auto, using(crate::proofs::Least::least_append))]

@@ -5,7 +5,7 @@ ghost use Rattle.sot_rules.specs.Sorts.{kinds_misfit, scales_misfit, operator_so
 ghost use Rattle.sot_rules.specs.Sorts.{branches_misfit};
 ghost use Rattle.sot_rules.specs.TreeSorts.{has_decimals, is_no_scale};
 
-use sot_tree::{Lit, Op};
+use sot_syntax_tree::{Lit, Op};
 
 /// What an expression gives: a number with so many decimals, a truth value, or anything, where a
 /// fault is inside it.

@@ -1,7 +1,7 @@
 //! Puts the names of an owner's lists into a table, each with what it stands for.
 ghost use Rattle.std.specs.Prelude.{◌≡◌, List, Option, map, OnOk};
 ghost use Rattle.std.specs.Option.{option_to_list};
-ghost use Rattle.sot_tree.specs.TreeViews.{declaration_view, local_view, shape_view};
+ghost use Rattle.sot_syntax_tree.specs.TreeViews.{declaration_view, local_view, shape_view};
 ghost use Rattle.sot_rules.specs.Names.{Part, Thing, meaning, local_thing, noise_thing};
 ghost use Rattle.sot_rules.specs.Names.{state_thing};
 ghost use Rattle.sot_rules.specs.Indexes.{program_in, IsIndex};
@@ -12,7 +12,7 @@ use crate::declarations::range::scalar_sort;
 use crate::names::index::{Index, state_sort};
 use crate::names::scope::{Kept, Things};
 use crate::names::things::add;
-use sot_tree::{Decl, Field, Ident, LocalDecl, Shape, StateDecl};
+use sot_syntax_tree::{Decl, Field, Ident, LocalDecl, Shape, StateDecl};
 use std::alloc::AllocError;
 
 /// Which declarations a list of names is of. A name of another one adds nothing.

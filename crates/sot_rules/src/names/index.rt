@@ -2,8 +2,8 @@
 ghost use Rattle.std.specs.Prelude.{◌≡◌, ◌++◌, ◌∷◌, [], ◌||◌, ◌<◌, true, ℕ, List, length, is_some};
 ghost use Rattle.std.specs.Prelude.{map, position, slice_get, Option, option_map, IfOk, OnOk};
 ghost use Rattle.std.specs.Prelude.{IfSome};
-ghost use Rattle.sot_tree.specs.Trees.{Declaration};
-ghost use Rattle.sot_tree.specs.TreeViews.{declaration_view, program_view};
+ghost use Rattle.sot_syntax_tree.specs.Trees.{Declaration};
+ghost use Rattle.sot_syntax_tree.specs.TreeViews.{declaration_view, program_view};
 ghost use Rattle.sot_rules.specs.Names.{declared_name, field_part, meaning, state_part};
 ghost use Rattle.sot_rules.specs.Sorts.{state_sort};
 ghost use Rattle.sot_rules.specs.Faults.{repeats};
@@ -18,7 +18,7 @@ use crate::expressions::sort::{Sort, scale_sort};
 use crate::names::scope::PartTable;
 use indexmap::{IndexMap, IndexSet};
 use sot_names::{FEW, NameHasher, NameKey, NameKeys, NameMap, add_value, declared_name, hasher_of};
-use sot_tree::{Decl, Field, Ident, Program, Shape, StateDecl};
+use sot_syntax_tree::{Decl, Field, Ident, Program, Shape, StateDecl};
 use std::alloc::{AllocError, Global};
 
 /// The declarations of a program by their names, with the parts of those that have several.

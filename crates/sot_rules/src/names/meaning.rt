@@ -6,7 +6,7 @@ ghost use Rattle.sot_rules.specs.Scopes.{sorts_in};
 ghost use Rattle.sot_rules.specs.Meanings.{meant, size_of};
 
 use crate::declarations::topic::scalar_count;
-use sot_tree::{Decl, StateDecl};
+use sot_syntax_tree::{Decl, StateDecl};
 
 pub fn is_topic(d: Option<&Decl>) -> bool
     ensures { result ≡ is_topic (meant d.entry) }

@@ -1,6 +1,6 @@
 //! The names that a node and a plant may use.
 ghost use Rattle.std.specs.Prelude.{◌≡◌, [], IfOk, OnOk, map};
-ghost use Rattle.sot_tree.specs.TreeViews.{node_view, plant_view};
+ghost use Rattle.sot_syntax_tree.specs.TreeViews.{node_view, plant_view};
 ghost use Rattle.sot_rules.specs.Names.{node_scope, plant_scope};
 ghost use Rattle.sot_rules.specs.Scopes.{parts_of, scope_in};
 ghost use Rattle.sot_rules.specs.Indexes.{program_in, IsIndex};
@@ -11,7 +11,7 @@ use crate::names::index::Index;
 use crate::names::scope::{Names, Scope, Things};
 use crate::names::things::no_things;
 use sot_names::{FEW, NameHasher, NameKey, hasher_beyond_few};
-use sot_tree::{NodeDecl, PlantDecl};
+use sot_syntax_tree::{NodeDecl, PlantDecl};
 use std::alloc::{AllocError, Global};
 
 // The hasher of what a node's expressions name.

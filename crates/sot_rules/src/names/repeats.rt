@@ -2,7 +2,7 @@
 ghost use Rattle.std.specs.Prelude.{◌≡◌, List, ◌++◌, [], map, true, false, IfOk, OnOk};
 ghost use Rattle.std.specs.List.{fold, list_any};
 ghost use Rattle.std.specs.Str.{bytes_eq};
-ghost use Rattle.sot_tree.specs.declared.tree.Ident.{Ident};
+ghost use Rattle.sot_syntax_tree.specs.declared.tree.Ident.{Ident};
 ghost use Rattle.sot_rules.specs.declared.fault.TypeKind.TheVariants.{Twice};
 ghost use Rattle.sot_rules.specs.Faults.{least, when, repeats};
 ghost use Rattle.sot_names.specs.NameSets.{keys_in};
@@ -11,7 +11,7 @@ ghost use Rattle.sot_names.specs.SeenNames.{seen_names, with_name};
 use crate::fault::{TypeFault, TypeKind, note};
 use crate::names::behind::{FRONT, are_names_behind};
 use sot_names::{NameSet, Named, hasher_beyond_few, insert_name, no_name};
-use sot_tree::Ident;
+use sot_syntax_tree::Ident;
 use std::alloc::{AllocError, Global};
 
 /// One name of a list, where the earlier ones were seen.

@@ -11,8 +11,8 @@ use crate::expressions::sort::Sort;
 use crate::names::index::state_sort;
 use crate::names::things::thing_of;
 use sot_names::NameMap;
+use sot_syntax_tree::{Field, Ident, StateDecl};
 use sot_text::Span;
-use sot_tree::{Field, Ident, StateDecl};
 
 /// What a name stands for: one number or truth value, or several, whose names are in one of the
 /// tables of parts.

@@ -1,12 +1,12 @@
 //! Whether statements stand behind a place of the text.
 ghost use Rattle.std.specs.Prelude.{◌≡◌};
-ghost use Rattle.sot_tree.specs.TreeViews.{statement_view, block_view};
+ghost use Rattle.sot_syntax_tree.specs.TreeViews.{statement_view, block_view};
 ghost use Rattle.sot_rules.specs.Behind.{statement_behind, block_behind};
 
 use crate::expressions::behind::is_tree_behind;
 use crate::fault::is_behind;
+use sot_syntax_tree::Stmt;
 use sot_text::Span;
-use sot_tree::Stmt;
 
 /// Whether each part of the statements of a block stands behind a place.
 #[cycle(block_behind)]

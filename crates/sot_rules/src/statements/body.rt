@@ -1,6 +1,6 @@
 //! The faults of a node's body.
 ghost use Rattle.std.specs.Prelude.{◌≡◌, true, Some, OnOk};
-ghost use Rattle.sot_tree.specs.TreeViews.{block_view, node_view};
+ghost use Rattle.sot_syntax_tree.specs.TreeViews.{block_view, node_view};
 ghost use Rattle.sot_rules.specs.Names.{Scope as Known, node_scope};
 ghost use Rattle.sot_rules.specs.Tests.{block_unrolled};
 ghost use Rattle.sot_rules.specs.Faults.{body_faults, least, past};
@@ -14,7 +14,7 @@ use crate::names::scope::Scope;
 use crate::statements::behind::is_block_behind;
 use crate::statements::statement::block;
 use crate::statements::unrolled::{Reached, reach_block};
-use sot_tree::{NodeDecl, Stmt};
+use sot_syntax_tree::{NodeDecl, Stmt};
 use std::alloc::{AllocError, Global};
 
 // The first statement past 10,000.

@@ -1,6 +1,6 @@
 //! The faults of statements, and of a value for a target.
 ghost use Rattle.std.specs.Prelude.{◌≡◌, None};
-ghost use Rattle.sot_tree.specs.TreeViews.{statement_view, block_view};
+ghost use Rattle.sot_syntax_tree.specs.TreeViews.{statement_view, block_view};
 ghost use Rattle.sot_rules.specs.Names.{reading};
 ghost use Rattle.sot_rules.specs.Tests.{is_off};
 ghost use Rattle.sot_rules.specs.Faults.{least, target_faults, statement_faults, block_faults};
@@ -10,8 +10,8 @@ use crate::expressions::expression::{expression, note_misfits, note_reading};
 use crate::expressions::sort::{Sort, are_mixed, differ, has_decimals, is_scaled};
 use crate::fault::{TypeFault, TypeKind, note};
 use crate::names::scope::{Names, Scope, reading};
+use sot_syntax_tree::{Ident, Lit, Stmt};
 use sot_text::Span;
-use sot_tree::{Ident, Lit, Stmt};
 
 /// A value of a sort, for a target.
 #[tactic(auto, using(crate::proofs::Least::least_append))]

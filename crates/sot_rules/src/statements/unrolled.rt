@@ -1,11 +1,11 @@
 //! Places among statements with loops unrolled, which are counted and never written out.
 ghost use Rattle.std.specs.Prelude.{◌≡◌, ◌+◌, ◌*◌, ◌<◌, ◌∷◌, [], IfNone, IfSome, nat_abs};
-ghost use Rattle.sot_tree.specs.TreeViews.{statement_view, block_view};
+ghost use Rattle.sot_syntax_tree.specs.TreeViews.{statement_view, block_view};
 ghost use Rattle.sot_rules.specs.Tests.{unrolled, block_unrolled};
 ghost use Rattle.sot_rules.specs.Reached.{IsReached};
 
+use sot_syntax_tree::{Lit, Stmt};
 use sot_text::Span;
-use sot_tree::{Lit, Stmt};
 
 /// What stands at a place of a list, or how far the place is past the list's end.
 #[derive(Clone, Copy)]

@@ -6,8 +6,8 @@ use super::*;
 use sot_board::Board;
 use sot_code::Seen;
 use sot_compose::check_all;
-use sot_journal::Journal;
 use sot_lang::Draft;
+use sot_turn_journal::Journal;
 use sot_world::Mode;
 
 // What is done to a board.

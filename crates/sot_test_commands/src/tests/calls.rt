@@ -3,7 +3,7 @@
 use super::*;
 use sot_commands::command_of;
 use sot_ports::MemSource;
-use sot_test_shared_texts::LINE_FORMATTED;
+use sot_test_texts_shared::LINE_FORMATTED;
 
 const LIMIT: usize = 16_777_216;
 

@@ -1,7 +1,7 @@
 //! Tests of `fly` on whole missions.
 
 use super::*;
-use sot_test_shared_texts::SWITCHED;
+use sot_test_texts_shared::SWITCHED;
 
 // A node that copies what comes from outside, and nothing to certify.
 const RELAY: &str = "environment topic e: int[0..9] = 0;

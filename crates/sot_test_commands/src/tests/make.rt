@@ -1,7 +1,7 @@
 //! Tests of `make`: its words, and the text that it writes.
 
 use super::*;
-use sot_test_shared_texts::TWO_MODULES;
+use sot_test_texts_shared::TWO_MODULES;
 
 #[test]
 fn makes_a_mission_and_reads_nothing(rt: HostRuntime) {

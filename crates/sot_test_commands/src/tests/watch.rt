@@ -1,7 +1,7 @@
 //! Tests of `watch` on whole missions. Expected answers are those of an independent program.
 
 use super::*;
-use sot_test_shared_texts::SWITCHED;
+use sot_test_texts_shared::SWITCHED;
 
 // A vehicle on a line, at most one of whose nodes is due in any instant.
 const VEHICLE: &str = "topic cmd: int[-2..2] = 0;

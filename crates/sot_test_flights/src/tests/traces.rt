@@ -2,7 +2,7 @@
 use super::*;
 use sot_board::Board;
 use sot_compose::check_all;
-use sot_test_shared_texts::{IDLE, SWITCHED};
+use sot_test_texts_shared::{IDLE, SWITCHED};
 use sot_trace::board_text;
 use sot_workers::fly_alone as fly;
 use sot_world::OpenFail;

@@ -6,7 +6,7 @@ ghost use Rattle.sot_code.specs.Recorded.{MayRun};
 
 use super::*;
 use sot_code::{Locals, Seen, run_node_over};
-use sot_flat_code::{Flat, Unfit};
+use sot_eval_flat::{Flat, Unfit};
 use sot_lang::{Draft, Trap, Typed};
 
 // Nodes that read two numbers and a truth value.

@@ -1,7 +1,7 @@
 //! Lines of a source that gives them in pieces.
 
 use super::*;
-use sot_line_buffer::{LineBuffer, Waited};
+use sot_guard_input::{LineBuffer, Waited};
 use sot_ports::{Failed, MemSource};
 
 // How many `x` the source has in front, the most bytes of a read, the read that fails (0: none),

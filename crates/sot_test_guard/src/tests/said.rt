@@ -3,8 +3,8 @@
 ghost use Rattle.sot_trace.specs.Words.{AreWords};
 
 use super::*;
+use sot_guard_lines::{Said, numbers_of_lines, read_said};
 use sot_lang::{Draft, Typed};
-use sot_robot_lines::{Said, numbers_of_lines, read_said};
 
 // An environment topic and one that nodes write, both records, a topic of one number, a plant of
 // two state variables, and one of one.

@@ -5,8 +5,8 @@ ghost use Rattle.sot_trace.specs.Words.{AreWords};
 
 use super::*;
 use sot_compose::check_all;
-use sot_guard_session::Misheard;
-use sot_guard_talk::{Opening, Talk};
+use sot_guard::Misheard;
+use sot_guard_protocol::{Talk, TalkOpening};
 use sot_text_output::Scratch;
 use sot_tube::Accepted;
 use sot_world::OpenFail;
@@ -414,7 +414,7 @@ fn push_fault(line: usize, why: Misheard, text: &mut String) -> Result<(), Alloc
 
 // Hears where a plant was observed first. The answer is whether it was heard.
 fn push_start(
-    opening: &mut Opening<'_>,
+    opening: &mut TalkOpening<'_>,
     number: usize,
     line: &str,
     text: &mut String,
@@ -479,7 +479,7 @@ fn push_talk(
 // Adds all that comes of the first lines, up to the one that begins the talk. The answer is how
 // many they are, or none where one was not heard.
 fn push_starts(
-    opening: &mut Opening<'_>,
+    opening: &mut TalkOpening<'_>,
     lines: &[&str],
     text: &mut String,
 ) -> Result<Option<usize>, AllocError> {
@@ -499,7 +499,7 @@ fn log_of(alloc: Global, acc: &Accepted<'_>, lines: &[&str]) -> Result<String, A
     requires { AreWords acc.now.program }
 {
     let mut text = String::new(alloc);
-    let mut opening = Opening::new(alloc, acc)?;
+    let mut opening = TalkOpening::new(alloc, acc)?;
     let Some(from) = push_starts(&mut opening, lines, &mut text)? else {
         return Ok(text);
     };

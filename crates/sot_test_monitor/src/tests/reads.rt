@@ -1,6 +1,6 @@
 //! What texts are read as.
 use sot_formula::{MonitorFail, read};
-use sot_test_missions::line;
+use sot_worked_missions::line;
 use std::alloc::Global;
 use std::process::Abort;
 

@@ -1,7 +1,7 @@
 //! Whether formulas hold, moment by moment.
 use sot_formula::Quantity;
 use sot_monitor::{Looks, Monitor};
-use sot_test_missions::line;
+use sot_worked_missions::line;
 use std::alloc::Global;
 use std::process::Abort;
 

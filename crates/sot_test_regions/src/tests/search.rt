@@ -1,10 +1,10 @@
 //! Regions that are searched for. What is wanted was found by another program.
 use super::same;
 use sot_box::BoxN;
-use sot_closed_atoms::may_ask;
+use sot_invariant_atoms::may_ask;
 use sot_lang::Typed;
-use sot_regions::{Found, regions_of};
-use sot_test_missions::{line, pair};
+use sot_regions::{FoundRegions, regions_of};
+use sot_worked_missions::{line, pair};
 use std::alloc::Global;
 use std::process::Abort;
 
@@ -25,7 +25,7 @@ fn written(rt: &impl Abort, alloc: Global, boxes: &[BoxN]) -> String {
 }
 
 // What is found, list by list.
-fn told(rt: &impl Abort, alloc: Global, found: &Found) -> String {
+fn told(rt: &impl Abort, alloc: Global, found: &FoundRegions) -> String {
     let safe = written(rt, alloc, &found.safe);
     let safer = written(rt, alloc, &found.safer);
     let cells = written(rt, alloc, &found.cells);

@@ -6,15 +6,15 @@ ghost use Rattle.std.specs.Prelude.{◌≡◌, length};
 use super::same;
 use sot_atoms::{AtomSet, Grid, Sums};
 use sot_box::{BoxN, Interval};
-use sot_closed_atoms::{
-    Among, Ask, Held, any_stays, any_tube, atoms_of, closed_atoms, greatest, held_boxes,
+use sot_invariant_atoms::{
+    Among, ModuleAsk, TubeInAtoms, any_stays, atoms_of, closed_atoms, greatest, held_boxes,
     held_stays, held_tube,
 };
 use sot_lang::Typed;
 use sot_parser::parse;
-use sot_test_missions::{drifting_line, line};
 use sot_text::Lexer;
 use sot_typing::resolve;
+use sot_worked_missions::{drifting_line, line};
 use std::alloc::Global;
 use std::process::Abort;
 
@@ -48,7 +48,7 @@ node slow period 1 offset 0 { reads run; writes u; do { publish u = 0; } }
 module nav { ac fast; sc slow; period 1 offset 0; plant run; safe [0..1000]; safer [0..0]; }
 ";
 
-#[tactic(auto, using(sot_law_format::proofs::FormedPrograms::spelled_formed))]
+#[tactic(auto, using(sot_law_print_parse::proofs::FormedPrograms::spelled_formed))]
 fn typed(rt: &impl Abort, alloc: Global, text: &str) -> Typed {
     if text.len() > 10_000 {
         panic!(rt; "a text that is too long");
@@ -63,14 +63,14 @@ fn typed(rt: &impl Abort, alloc: Global, text: &str) -> Typed {
 }
 
 // The finest grid of the safe region of the module that is asked about.
-fn finest(rt: &impl Abort, ask: &Ask<'_>) -> Grid {
+fn finest(rt: &impl Abort, ask: &ModuleAsk<'_>) -> Grid {
     let hull = ask.info().safe.hull().expect(rt, "a hull");
     Grid::of(&hull, 33_554_432, 0).expect(rt, "a grid")
 }
 
 // How many atoms of the safe region there are, and how many of them are in the greatest set.
 fn counts(rt: &impl Abort, alloc: Global, p: &Typed, jitter: u32) -> (usize, usize) {
-    let ask = Ask::new(p, 0, jitter).expect(rt, "a module");
+    let ask = ModuleAsk::new(p, 0, jitter).expect(rt, "a module");
     let safe = &ask.info().safe;
     let grid = finest(rt, &ask);
     if grid.width() != ask.width() || safe.len() == 0 || safe.at(0).len() != grid.width() {
@@ -117,10 +117,10 @@ fn side(rt: &impl Abort, lo: i64, hi: i64) -> BoxN
 fn tubes_are(
     rt: &impl Abort,
     alloc: Global,
-    ask: &Ask<'_>,
+    ask: &ModuleAsk<'_>,
     from: (i64, i64),
-    held: Held,
-    any: Held,
+    held: TubeInAtoms,
+    any: TubeInAtoms,
 ) {
     let safe = &ask.info().safe;
     let area = side(rt, from.0, from.1);
@@ -131,42 +131,46 @@ fn tubes_are(
     let set = atoms_of(alloc, &grid, safe).expect(rt, "memory");
     let sums = Sums::of(alloc, &grid, &set).expect(rt, "memory");
     same(rt, from, held_tube(ask, &area, &grid, &set), held);
-    same(rt, from, any_tube(ask, &area, &grid, &set), any);
     for among in [Among::Atoms(&grid, &sums), Among::Region(safe)] {
         same(
             rt,
             from,
             held_stays(ask, &area, among),
-            held == Held::Inside,
+            held == TubeInAtoms::Inside,
         );
-        same(rt, from, any_stays(ask, &area, among), any == Held::Inside);
+        same(
+            rt,
+            from,
+            any_stays(ask, &area, among),
+            any == TubeInAtoms::Inside,
+        );
     }
 }
 
 #[test]
 fn tubes_are_compared_with_a_set(rt: HostRuntime) {
     let p = line(rt.alloc()).expect(&rt, "memory");
-    let ask = Ask::new(&p, 0, 0).expect(&rt, "a module");
+    let ask = ModuleAsk::new(&p, 0, 0).expect(&rt, "a module");
     for (from, held, any) in [
         // the safe node holds 0 from here, and the disturbance moves it by 1 a tick, for 2 ticks
-        ((-10, 10), Held::Inside, Held::Inside),
+        ((-10, 10), TubeInAtoms::Inside, TubeInAtoms::Inside),
         // any commands move it by 3 a tick, for 8 ticks, and what is held here for 2
-        ((-16, 16), Held::Inside, Held::Inside),
-        ((-17, 16), Held::Inside, Held::Leaves),
-        ((11, 40), Held::Inside, Held::Leaves),
-        ((-10, 38), Held::Inside, Held::Leaves),
-        ((-10, 39), Held::Leaves, Held::Leaves),
+        ((-16, 16), TubeInAtoms::Inside, TubeInAtoms::Inside),
+        ((-17, 16), TubeInAtoms::Inside, TubeInAtoms::Leaves),
+        ((11, 40), TubeInAtoms::Inside, TubeInAtoms::Leaves),
+        ((-10, 38), TubeInAtoms::Inside, TubeInAtoms::Leaves),
+        ((-10, 39), TubeInAtoms::Leaves, TubeInAtoms::Leaves),
         // which command is held is not sure here
-        ((-40, 40), Held::Leaves, Held::Leaves),
+        ((-40, 40), TubeInAtoms::Leaves, TubeInAtoms::Leaves),
         // outside of the set, and of its hull
-        ((100, 110), Held::Apart, Held::Apart),
+        ((100, 110), TubeInAtoms::Apart, TubeInAtoms::Apart),
     ] {
         tubes_are(&rt, rt.alloc(), &ask, from, held, any);
     }
 }
 
 // The ends of the boxes of the held tube of an interval, or none.
-fn ends(rt: &impl Abort, alloc: Global, ask: &Ask<'_>, lo: i64, hi: i64) -> Option<String> {
+fn ends(rt: &impl Abort, alloc: Global, ask: &ModuleAsk<'_>, lo: i64, hi: i64) -> Option<String> {
     if ask.width() != 1 {
         panic!(rt; "another width");
     }
@@ -196,7 +200,7 @@ fn held_tubes_have_a_box_each_tick(rt: HostRuntime) {
         // its tick divides by how far it is past 5
         (&drifting, 0, 0, 10, None),
     ] {
-        let ask = Ask::new(p, 0, jitter).expect(&rt, "a module");
+        let ask = ModuleAsk::new(p, 0, jitter).expect(&rt, "a module");
         match ends(&rt, alloc, &ask, lo, hi) {
             Some(text) => same(&rt, (lo, hi), Some(text.as_str()), wanted),
             None => same(&rt, (lo, hi), None, wanted),

@@ -3,9 +3,9 @@ use super::same;
 use sot_box::{BoxN, Interval, Region};
 use sot_parser::{ParseFail, parse};
 use sot_print::print;
-use sot_region_tree::{ModuleRegions, with_regions};
+use sot_regions_rewrite::{ModuleRegions, with_regions};
+use sot_syntax_tree::{BoxDecl, Decl, Program};
 use sot_text::Lexer;
-use sot_tree::{BoxDecl, Decl, Program};
 use std::alloc::Global;
 use std::process::Abort;
 

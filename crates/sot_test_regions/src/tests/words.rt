@@ -2,8 +2,8 @@
 use super::same;
 use sot_box::Point;
 use sot_lang::Typed;
-use sot_regions_words::{RegionsRefusal, WordFail, jitter_of, refusal_line, usage_text};
-use sot_test_missions::line;
+use sot_regions_program::{JitterFail, RegionsRefusal, jitter_of, refusal_line, usage_text};
+use sot_worked_missions::line;
 use std::alloc::Global;
 use std::process::Abort;
 
@@ -16,8 +16,8 @@ fn asked(rt: &impl Abort, alloc: Global, words: &[&str]) -> Option<u32> {
     }
     match jitter_of(alloc, &owned) {
         Ok(jitter) => Some(jitter),
-        Err(WordFail::Form) => None,
-        Err(WordFail::Memory) => panic!(rt; "memory"),
+        Err(JitterFail::Form) => None,
+        Err(JitterFail::Memory) => panic!(rt; "memory"),
     }
 }
 

@@ -7,7 +7,7 @@ use super::*;
 use sot_board::Board;
 use sot_flight::Flight;
 use sot_lang::Typed;
-use sot_test_shared_texts::{IDLE, SWITCHED};
+use sot_test_texts_shared::{IDLE, SWITCHED};
 use sot_trace::board_text;
 use sot_workers::fly_alone as fly;
 

@@ -4,7 +4,7 @@ ghost use Rattle.sot_trace.specs.Words.{AreWords};
 
 use super::same;
 use sot_lang::{Draft, Typed};
-use sot_law_one_trace::names_are_words;
+use sot_law_trace_unique::names_are_words;
 use sot_ports::Process;
 use sot_report::{Loaded, load};
 use sot_sections::Need;

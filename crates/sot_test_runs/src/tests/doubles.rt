@@ -2,7 +2,7 @@
 //! numbers were worked out by hand, and again by a program that was written from the rules alone.
 
 ghost use Rattle.std.specs.Prelude.{◌≡◌, ◌≤ℤ◌, ◌∷◌, [], pos, negsuc, IfOk};
-ghost use Rattle.sot_test_missions.specs.Double.{IsDouble};
+ghost use Rattle.sot_worked_missions.specs.Double.{IsDouble};
 
 use super::drive::step;
 use super::same;
@@ -12,8 +12,8 @@ use crate::double_cert;
 use sot_box::{BoxN, Point};
 use sot_lang::{Cert, Typed};
 use sot_rta::Refusal;
-use sot_test_missions::double;
 use sot_tube::Accepted;
+use sot_worked_missions::double;
 use sot_world::{Event, OpenFail, World};
 use std::alloc::{AllocError, Global};
 use std::process::Abort;

@@ -3,7 +3,7 @@
 // The vehicle beside a battery that sees it. All numbers were worked out by hand, and those of the
 // checks again by a program that was written from the rules alone.
 ghost use Rattle.std.specs.Prelude.{◌≡◌, ◌≤ℤ◌, ◌∷◌, [], pos, IfOk};
-ghost use Rattle.sot_test_missions.specs.Pair.{IsPair};
+ghost use Rattle.sot_worked_missions.specs.Pair.{IsPair};
 
 use super::drive::step;
 use super::same;
@@ -13,8 +13,8 @@ use crate::pair_cert;
 use sot_box::{BoxN, Point};
 use sot_lang::{Cert, Typed};
 use sot_rta::Refusal;
-use sot_test_missions::pair;
 use sot_tube::Accepted;
+use sot_worked_missions::pair;
 use sot_world::{Event, OpenFail, World};
 use std::alloc::{AllocError, Global};
 use std::process::Abort;

@@ -9,9 +9,9 @@ use sot_box::Point;
 use sot_code::{Locals, Seen, plant_next, run_node};
 use sot_iv::MayTrap;
 use sot_lang::{Trap, TrapKind, Typed};
-use sot_test_missions::{divide, divide_by_at_least_one, line};
 use sot_text::Span;
 use sot_traps::trap_free;
+use sot_worked_missions::{divide, divide_by_at_least_one, line};
 use std::alloc::{AllocError, Global};
 use std::process::Abort;
 

@@ -6,9 +6,9 @@ use super::worlds::at;
 use super::{cut, same};
 use sot_box::{BoxN, Interval};
 use sot_iv::iv_plant;
-use sot_test_missions::{drifting_line, line};
 use sot_text::Span;
 use sot_tube::{Leave, any_inside, held_inside, keeps};
+use sot_worked_missions::{drifting_line, line};
 use std::alloc::{AllocError, Global};
 use std::process::Abort;
 

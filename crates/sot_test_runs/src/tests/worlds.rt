@@ -3,7 +3,7 @@
 
 ghost use Rattle.std.specs.Prelude.{◌≡◌, ◌∷◌, [], IfOk};
 ghost use Rattle.sot_lang.specs.CertRules.{FitsTables};
-ghost use Rattle.sot_test_missions.specs.Line.{IsLine, IsMove};
+ghost use Rattle.sot_worked_missions.specs.Line.{IsLine, IsMove};
 ghost use Rattle.sot_test_runs.specs.Entries.{FitsAll};
 
 use super::drive::happen;
@@ -13,8 +13,8 @@ use crate::line_cert;
 use sot_box::Point;
 use sot_compose::check_all;
 use sot_lang::{Cert, Draft, Typed};
-use sot_test_missions::line;
 use sot_tube::Accepted;
+use sot_worked_missions::line;
 use sot_world::{Event, Mode, OpenFail, Outcome, Why, World};
 use std::alloc::{AllocError, Global};
 use std::process::Abort;

@@ -10,7 +10,7 @@ use sot_box::{BoxN, Region};
 use sot_cert::{CertFail, read_cert};
 use sot_lang::{Cert, Typed};
 use sot_ports::Process;
-use sot_test_missions::{line, pair};
+use sot_worked_missions::{line, pair};
 use std::alloc::{AllocError, Global};
 use std::process::Abort;
 
@@ -70,7 +70,11 @@ fn said(rt: &impl Abort, alloc: Global, p: &Typed, bytes: &[u8]) -> String {
         Ok(cert) => cert_text(alloc, &cert).expect(rt, "memory"),
         Err(CertFail::Memory) => panic!(rt; "memory"),
         Err(CertFail::Fault(fault)) => {
-            let (path, kind) = (fault.path.as_printed(), fault.kind);
+            let path = match fault.path.as_str() {
+                "" => "/",
+                below => below,
+            };
+            let kind = fault.kind;
             format!(in alloc; "{path} {kind:?}").expect(rt, "memory")
         }
     }

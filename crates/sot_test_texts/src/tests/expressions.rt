@@ -1,8 +1,8 @@
 //! Which tree a text has as an expression, where its parts stand, and how deep it may nest.
 use super::{cut, same};
 use sot_expression::{Fail, Tokens, tree};
+use sot_syntax_tree::{Expr, Ident, Lit, Member, Stmt};
 use sot_text::Lexer;
-use sot_tree::{Expr, Ident, Lit, Member, Stmt};
 use std::alloc::{AllocError, Global};
 use std::mem::size_of;
 use std::process::Abort;

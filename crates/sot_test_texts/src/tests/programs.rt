@@ -1,9 +1,9 @@
 //! Which program a text spells, and where one that spells none goes wrong.
 use super::{cut, same, unescaped};
 use sot_parser::{ParseFail, Syntax, parse};
-use sot_test_shared_texts::LINE_FORMATTED;
+use sot_syntax_tree::{Decl, Program, Stmt};
+use sot_test_texts_shared::LINE_FORMATTED;
 use sot_text::{LexFault, Lexer};
-use sot_tree::{Decl, Program, Stmt};
 use std::alloc::Global;
 use std::process::Abort;
 

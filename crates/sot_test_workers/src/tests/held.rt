@@ -3,7 +3,7 @@ ghost use Rattle.std.specs.Prelude.{◌≡◌, vec_len};
 
 use super::holder::{Caller, Holder};
 use super::{drafts_of, same, trace_of};
-use sot_node_worker::Controller;
+use sot_fly_worker::Controller;
 use std::alloc::Global;
 use std::process::Abort;
 use std::sync::Arc;

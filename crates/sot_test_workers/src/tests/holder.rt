@@ -1,8 +1,8 @@
 //! A guest that is held until another one was called.
 
 use sot_board::View;
+use sot_fly_worker::Controller;
 use sot_lang::Draft;
-use sot_node_worker::Controller;
 use std::alloc::Global;
 use std::sync::Arc;
 use std::sync::atomic::{AtomicBool, Ordering};

@@ -3,7 +3,7 @@ ghost use Rattle.std.specs.Prelude.{◌≡◌, vec_len};
 
 use super::{drafts_of, same, trace_of};
 use crate::keeper::{Keeper, Kept};
-use sot_test_shared_texts::SWITCHED;
+use sot_test_texts_shared::SWITCHED;
 use sot_workers::NodeList;
 use std::alloc::{AllocError, Global};
 use std::fmt::Write;

@@ -8,7 +8,7 @@ use crate::turn::seats::{draw, hand_back, serve};
 use crate::turn::steps::{Look, Pair};
 use crate::turn::{Held, Pass, Served, Turn};
 use atomic_table::Table;
-use sot_journal::Journal;
+use sot_turn_journal::Journal;
 use std::alloc::{AllocError, Global};
 use std::marker::PhantomData;
 use std::snapshot::Snapshot;

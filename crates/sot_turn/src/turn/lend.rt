@@ -6,7 +6,7 @@ ghost use Rattle.sot_turn.specs.Passes.{held_value};
 ghost use Rattle.sot_turn.specs.Lending.{LendsValue};
 
 use crate::turn::Held;
-use sot_journal::Journal;
+use sot_turn_journal::Journal;
 
 impl<'a, G: Journal> Held<'a, G> {
     /// The value. When the borrow ends, the holder has what was written through it.

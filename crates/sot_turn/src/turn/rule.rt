@@ -1,7 +1,7 @@
 //! The table of the lock. Word 0 is the number of tickets drawn, word 1 the ticket that is served,
 //! word 2 the length of the value's list. The slot has the value, or nothing while it is out.
 use atomic_table::{Seat, Shared, Table, TableRule};
-use sot_journal::Journal;
+use sot_turn_journal::Journal;
 use std::alloc::Global;
 use std::collections::LinkedList;
 use std::marker::PhantomData;

@@ -7,7 +7,7 @@ ghost use Rattle.sot_turn.specs.Places.{IsPlaceOf, IsSamePlace, IsIdle, Waits, H
 
 use crate::turn::rule::{Place, Top};
 use crate::turn::steps::{Announce, Draw, Look, PassOn};
-use sot_journal::Journal;
+use sot_turn_journal::Journal;
 use std::hint::spin_loop;
 use std::sync::Wait;
 use std::thread;

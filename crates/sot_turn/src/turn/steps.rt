@@ -5,7 +5,7 @@ ghost use Rattle.sot_turn.specs.Steps.{draws, looks, announces, passes};
 
 use crate::turn::rule::View;
 use atomic_table::{Join, Play, Split};
-use sot_journal::Journal;
+use sot_turn_journal::Journal;
 use std::marker::PhantomData;
 
 /// Draws a ticket: a compare-exchange of word 0 from a number to the next.

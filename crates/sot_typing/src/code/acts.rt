@@ -1,6 +1,6 @@
 //! Statements with places for names.
 ghost use Rattle.std.specs.Prelude.{◌≡◌, [], IfOk, None, false, nat_abs};
-ghost use Rattle.sot_tree.specs.TreeViews.{tree_view, statement_view, block_view};
+ghost use Rattle.sot_syntax_tree.specs.TreeViews.{tree_view, statement_view, block_view};
 ghost use Rattle.sot_rules.specs.Names.{reading};
 ghost use Rattle.sot_rules.specs.TreeSorts.{has_decimals};
 ghost use Rattle.sot_rules.specs.Scopes.{field_in};
@@ -14,7 +14,7 @@ ghost use Rattle.sot_typing.specs.Bodies.{scope_in, IsSmall};
 use crate::code::terms::term;
 use crate::names::things::{Thing, named};
 use sot_lang::Act;
-use sot_tree::{Expr, Ident, Lit, Stmt};
+use sot_syntax_tree::{Expr, Ident, Lit, Stmt};
 use std::alloc::{AllocError, Global};
 
 /// The names that a node's statements use: those that its expressions read, its locals, and the

@@ -1,6 +1,6 @@
 //! The bodies of nodes and the `next` clauses of plants, with places for names.
 ghost use Rattle.std.specs.Prelude.{◌≡◌, ◌++◌, [], IfOk, OnOk, All, map, option_map};
-ghost use Rattle.sot_tree.specs.TreeViews.{tree_view, block_view, plant_view, node_view};
+ghost use Rattle.sot_syntax_tree.specs.TreeViews.{tree_view, block_view, plant_view, node_view};
 ghost use Rattle.sot_rules.specs.Names.{node_scope, plant_scope};
 ghost use Rattle.sot_rules.specs.Faults.{together, node_lists, plant_lists, tree_faults};
 ghost use Rattle.sot_rules.specs.Faults.{block_faults};
@@ -16,7 +16,7 @@ use crate::names::gather::{add_locals, add_named, add_noise, add_states};
 use crate::names::things::Thing;
 use sot_lang::{Act, Term};
 use sot_rules::{Index, NameList};
-use sot_tree::{NextDecl, NodeDecl, PlantDecl, Stmt};
+use sot_syntax_tree::{NextDecl, NodeDecl, PlantDecl, Stmt};
 use std::alloc::{AllocError, Global};
 
 // Puts what a node's expressions, its assignments and its publications name into empty lists.

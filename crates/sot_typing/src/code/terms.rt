@@ -1,6 +1,6 @@
 //! Expressions with places for names.
 ghost use Rattle.std.specs.Prelude.{◌≡◌, ◌≤◌, [], IfOk, false, nat_abs};
-ghost use Rattle.sot_tree.specs.TreeViews.{tree_view, parts_view};
+ghost use Rattle.sot_syntax_tree.specs.TreeViews.{tree_view, parts_view};
 ghost use Rattle.sot_rules.specs.Sorts.{scales_misfit, operator_sort, given, call_sort};
 ghost use Rattle.sot_rules.specs.Names.{reading, reading_sort};
 ghost use Rattle.sot_rules.specs.Scopes.{field_in};
@@ -17,8 +17,8 @@ ghost use Rattle.sot_typing.specs.Sorted.{formulas_view, IsSorted, AreSorted};
 use crate::names::things::{Thing, named};
 use sot_lang::Term;
 use sot_rules::{Sort, given, operator_sort};
+use sot_syntax_tree::{Expr, Func, Ident, Lit, Op};
 use sot_text::Span;
-use sot_tree::{Expr, Func, Ident, Lit, Op};
 use std::alloc::{AllocError, Global};
 
 /// An expression with places for names, and its sort.

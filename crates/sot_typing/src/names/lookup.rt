@@ -1,13 +1,13 @@
 //! What a name of the program means, with its number.
 ghost use Rattle.std.specs.Prelude.{◌≡◌, MatchOption, None};
-ghost use Rattle.sot_tree.specs.TreeViews.{declaration_view};
+ghost use Rattle.sot_syntax_tree.specs.TreeViews.{declaration_view};
 ghost use Rattle.sot_rules.specs.Indexes.{program_in};
 ghost use Rattle.sot_rules.specs.Names.{meaning};
 ghost use Rattle.sot_typing.specs.Meant.{AreNumbers, IsMeant};
 
 use crate::names::numbers::Number;
 use sot_rules::Index;
-use sot_tree::{Decl, Ident};
+use sot_syntax_tree::{Decl, Ident};
 
 /// A declaration with its number.
 #[derive(Clone, Copy)]

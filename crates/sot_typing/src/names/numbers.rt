@@ -1,11 +1,11 @@
 //! The numbers of declarations among those of their kind.
 ghost use Rattle.std.specs.Prelude.{◌≡◌, map, IfOk};
-ghost use Rattle.sot_tree.specs.TreeViews.{declaration_view};
+ghost use Rattle.sot_syntax_tree.specs.TreeViews.{declaration_view};
 ghost use Rattle.sot_typing.specs.Numbers.{FitLimits, HasRoom, counted, nothing_counted, numbered};
 ghost use Rattle.sot_typing.specs.Numbers.{numbers_of};
 
 use sot_rules::scalar_count;
-use sot_tree::Decl;
+use sot_syntax_tree::Decl;
 use std::alloc::{AllocError, Global};
 
 /// The number of a declaration among those of its sort, from 0 on, and of a topic the place of its
@@ -18,7 +18,7 @@ pub struct Number {
 
 /// How many declarations of each sort were met, and how many scalars of topics.
 #[derive(Clone, Copy)]
-pub struct Counts {
+pub struct SlotCounts {
     pub topics: u32,
     pub scalars: u32,
     pub plants: u32,
@@ -26,8 +26,8 @@ pub struct Counts {
     pub modules: u32,
 }
 
-// Counts one more declaration, and gives its number.
-fn count(counts: &mut Counts, d: &Decl) -> Number
+// SlotCounts one more declaration, and gives its number.
+fn count(counts: &mut SlotCounts, d: &Decl) -> Number
     requires { HasRoom counts.old (declaration_view d.now) }
     ensures number { result ≡ numbered counts.old (declaration_view d.now) }
     ensures counts { counts.new ≡ counted counts.old (declaration_view d.now) }
@@ -65,7 +65,7 @@ pub fn numbers(alloc: Global, decls: &[Decl]) -> Result<Vec<Number>, AllocError>
     requires { FitLimits nothing_counted (map declaration_view decls.now) }
     ensures { IfOk result (λ v. v.items ≡ numbers_of (map declaration_view decls.now)) }
 {
-    let mut counts = Counts {
+    let mut counts = SlotCounts {
         topics: 0,
         scalars: 0,
         plants: 0,

@@ -12,7 +12,7 @@ use crate::names::lookup::look_up;
 use crate::names::numbers::Number;
 use sot_lang::Slot;
 use sot_rules::{Index, scalar_count};
-use sot_tree::{Decl, Ident};
+use sot_syntax_tree::{Decl, Ident};
 use std::alloc::AllocError;
 
 // So many scalars, from one on.

@@ -2,7 +2,7 @@
 ghost use Rattle.std.specs.Prelude.{◌≡◌, ℕ, ◌≤◌, [], List, length, map, find, true};
 ghost use Rattle.std.specs.List.{position_or_len};
 ghost use Rattle.std.specs.Str.{bytes_eq};
-ghost use Rattle.sot_tree.specs.declared.tree.Ident.{Ident as AnIdent};
+ghost use Rattle.sot_syntax_tree.specs.declared.tree.Ident.{Ident as AnIdent};
 ghost use Rattle.sot_rules.specs.Names.{field_part, state_part, part_reading, parts_reading};
 ghost use Rattle.sot_rules.specs.Names.{reading, reading_sort};
 ghost use Rattle.sot_rules.specs.Scopes.{field_in};
@@ -11,7 +11,7 @@ ghost use Rattle.sot_typing.specs.Terms.{is_meant, parts_references, place_of};
 ghost use Rattle.sot_typing.specs.Things.{parts_in, things_in, AreFew};
 
 use sot_rules::{Sort, scalar_sort, state_sort};
-use sot_tree::{Field, Ident, StateDecl};
+use sot_syntax_tree::{Field, Ident, StateDecl};
 
 /// What a name stands for: one number or truth value, the fields of a record, or the state
 /// variables of a plant.
@@ -31,7 +31,7 @@ pub struct Thing<'p> {
 
 /// What a name gives: its place among the numbers of its owner, and its sort.
 #[derive(Clone, Copy)]
-pub struct Found {
+pub struct FoundThing {
     pub place: usize,
     pub sort: Sort,
 }
@@ -43,7 +43,7 @@ fn bytes_of(name: &Ident) -> &[u8]
 }
 
 // The first field of this name.
-fn field_named(fields: &[Field], name: &Ident) -> Found
+fn field_named(fields: &[Field], name: &Ident) -> FoundThing
     requires { reading_faults
         (part_reading name.now
         (find (λ x. bytes_eq name.now.name x.name) (map field_part fields.now))) ≡ [] }
@@ -55,7 +55,7 @@ fn field_named(fields: &[Field], name: &Ident) -> Found
 {
     for (place, f) in fields.iter().enumerate() {
         if bytes_of(name) == f.name.name.as_bytes() {
-            return Found {
+            return FoundThing {
                 place,
                 sort: scalar_sort(f.scalar),
             };
@@ -65,7 +65,7 @@ fn field_named(fields: &[Field], name: &Ident) -> Found
 }
 
 // The first state variable of this name.
-fn state_named(states: &[StateDecl], name: &Ident) -> Found
+fn state_named(states: &[StateDecl], name: &Ident) -> FoundThing
     requires { reading_faults
         (part_reading name.now
         (find (λ x. bytes_eq name.now.name x.name) (map state_part states.now))) ≡ [] }
@@ -77,7 +77,7 @@ fn state_named(states: &[StateDecl], name: &Ident) -> Found
 {
     for (place, s) in states.iter().enumerate() {
         if bytes_of(name) == s.name.name.as_bytes() {
-            return Found {
+            return FoundThing {
                 place,
                 sort: state_sort(s),
             };
@@ -87,7 +87,7 @@ fn state_named(states: &[StateDecl], name: &Ident) -> Found
 }
 
 // What a field, or no field, names among the parts of one thing.
-fn part_named(parts: Parts<'_>, field: Option<&Ident>) -> Found
+fn part_named(parts: Parts<'_>, field: Option<&Ident>) -> FoundThing
     requires { (i : AnIdent)
         × (reading_faults (parts_reading i (field_in field) (parts_in parts)) ≡ []) }
     ensures place { (i : AnIdent) (name : List ℕ) → bytes_eq i.name name ≡ true → result.place
@@ -98,7 +98,7 @@ fn part_named(parts: Parts<'_>, field: Option<&Ident>) -> Found
 {
     match field {
         None => match parts {
-            Parts::Alone(sort) => Found { place: 0, sort },
+            Parts::Alone(sort) => FoundThing { place: 0, sort },
             _ => unreachable!(),
         },
         Some(name) => match parts {
@@ -122,7 +122,7 @@ fn size(parts: Parts<'_>) -> usize
 
 /// What is named so. An owner has at most 80 numbers where its program has no fault, so the list is
 /// searched.
-pub fn named(things: &[Thing], first: &Ident, field: Option<&Ident>) -> Found
+pub fn named(things: &[Thing], first: &Ident, field: Option<&Ident>) -> FoundThing
     requires few { AreFew (things_in things.now) }
     requires known { reading_faults (reading (things_in things.now) first.now (field_in field))
         ≡ [] }
@@ -136,7 +136,7 @@ pub fn named(things: &[Thing], first: &Ident, field: Option<&Ident>) -> Found
     for x in things {
         if first.name.as_bytes() == x.name.name.as_bytes() {
             let part = part_named(x.parts, field);
-            return Found {
+            return FoundThing {
                 place: before + part.place,
                 sort: part.sort,
             };

@@ -1,7 +1,7 @@
 //! The five lists of a program's tables.
 ghost use Rattle.std.specs.Prelude.{◌≡◌, ◌++◌, ◌∷◌, [], map, flat_map, filter_map, OnOk, IfOk};
-ghost use Rattle.sot_tree.specs.TreeViews.{declaration_view};
-ghost use Rattle.sot_tree.specs.Formed.{IsFormed};
+ghost use Rattle.sot_syntax_tree.specs.TreeViews.{declaration_view};
+ghost use Rattle.sot_syntax_tree.specs.Formed.{IsFormed};
 ghost use Rattle.sot_rules.specs.First.{IsFaultless};
 ghost use Rattle.sot_rules.specs.Indexes.{program_in};
 ghost use Rattle.sot_typing.specs.Resolved.{a_topic_of, a_plant_of, a_node_of, a_module_of};
@@ -17,7 +17,7 @@ use crate::tables::rows::{module_info, node_info, plant_info};
 use crate::tables::topic::{put_scalars, topic_info};
 use sot_lang::{ModuleInfo, NodeInfo, PlantInfo, ScalarInfo, TopicInfo, Typed};
 use sot_rules::Index;
-use sot_tree::Decl;
+use sot_syntax_tree::Decl;
 use std::alloc::{AllocError, Global};
 
 /// The five lists, while the tables of declarations are put into them.

@@ -1,13 +1,13 @@
 //! The rows of the parts of plants and nodes: state variables, disturbances and locals.
 ghost use Rattle.std.specs.Prelude.{◌≡◌, ◌++◌, map, IfOk, OnOk};
 ghost use Rattle.std.specs.List.{All};
-ghost use Rattle.sot_tree.specs.TreeViews.{local_view};
+ghost use Rattle.sot_syntax_tree.specs.TreeViews.{local_view};
 ghost use Rattle.sot_typing.specs.Resolved.{state_info, noise_info, local_info};
 ghost use Rattle.sot_typing.specs.Parts.{StateFits, FieldFits, LocalFits};
 
 use crate::tables::range::{const_number, greatest, is_truth, lowest, scalar_scale, state_scale};
 use sot_lang::{LocalInfo, NoiseInfo, StateInfo};
-use sot_tree::{Field, LocalDecl, StateDecl};
+use sot_syntax_tree::{Field, LocalDecl, StateDecl};
 use std::alloc::{AllocError, Global};
 
 fn state_info(alloc: Global, s: &StateDecl) -> Result<StateInfo, AllocError>

@@ -4,7 +4,7 @@ ghost use Rattle.sot_rules.specs.Sorts.{scale_sort, state_sort};
 ghost use Rattle.sot_typing.specs.Terms.{sort_scale};
 ghost use Rattle.sot_typing.specs.Resolved.{lowest, greatest, const_number, scalar_scale, is_truth};
 
-use sot_tree::{Const, Lit, Scalar, StateDecl};
+use sot_syntax_tree::{Const, Lit, Scalar, StateDecl};
 
 // A written count of decimals.
 fn written(d: Lit) -> u8

@@ -1,12 +1,12 @@
 //! The region of a list of boxes.
 ghost use Rattle.std.specs.Prelude.{◌≡◌, ◌<◌, ◌≤◌, length, map, true, IfOk};
 ghost use Rattle.std.specs.List.{All};
-ghost use Rattle.sot_tree.specs.TreeViews.{area_view};
+ghost use Rattle.sot_syntax_tree.specs.TreeViews.{area_view};
 ghost use Rattle.sot_typing.specs.Resolved.{side_of};
 ghost use Rattle.sot_typing.specs.Parts.{AreaFits, SideFits};
 
 use sot_box::{BoxN, Interval, Region};
-use sot_tree::{Bounds, BoxDecl};
+use sot_syntax_tree::{Bounds, BoxDecl};
 use std::alloc::{AllocError, Global};
 
 fn side(b: Bounds) -> Interval

@@ -1,6 +1,6 @@
 //! The rows of plants, nodes and modules.
 ghost use Rattle.std.specs.Prelude.{◌≡◌, ◌≤◌, nat_abs, IfOk, OnOk};
-ghost use Rattle.sot_tree.specs.TreeViews.{plant_view, node_view, module_view};
+ghost use Rattle.sot_syntax_tree.specs.TreeViews.{plant_view, node_view, module_view};
 ghost use Rattle.sot_rules.specs.Indexes.{IsIndex, program_in};
 ghost use Rattle.sot_typing.specs.Resolved.{plant_seen, plant_table, node_seen, node_table};
 ghost use Rattle.sot_typing.specs.Resolved.{module_info, state_count};
@@ -17,7 +17,7 @@ use crate::tables::parts::{put_locals, put_noise, put_states};
 use crate::tables::region::region;
 use sot_lang::{ModuleInfo, NodeInfo, PlantInfo};
 use sot_rules::Index;
-use sot_tree::{Decl, Ident, Lit, ModuleDecl, NodeDecl, PlantDecl};
+use sot_syntax_tree::{Decl, Ident, Lit, ModuleDecl, NodeDecl, PlantDecl};
 use std::alloc::{AllocError, Global};
 
 // Puts the parts of a plant into the empty lists of its table.

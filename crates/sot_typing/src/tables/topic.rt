@@ -1,7 +1,7 @@
 //! The row of a topic, and the rows of its scalars.
 ghost use Rattle.std.specs.Prelude.{◌≡◌, ◌<◌, ◌≤◌, ◌++◌, length, Some, IfOk, OnOk};
 ghost use Rattle.std.specs.List.{All};
-ghost use Rattle.sot_tree.specs.TreeViews.{init_view, topic_view};
+ghost use Rattle.sot_syntax_tree.specs.TreeViews.{init_view, topic_view};
 ghost use Rattle.sot_rules.specs.Tests.{start_values};
 ghost use Rattle.sot_typing.specs.Resolved.{scalar_count, scalar_info, scalar_scale};
 ghost use Rattle.sot_typing.specs.Parts.{FieldFits, TopicFits, field_scalars, scalars_at};
@@ -9,7 +9,7 @@ ghost use Rattle.sot_typing.specs.Parts.{FieldFits, TopicFits, field_scalars, sc
 use crate::tables::range::{const_number, greatest, is_truth, lowest, scalar_scale};
 use sot_lang::{ScalarInfo, TopicInfo};
 use sot_rules::{scalar_count, start_value};
-use sot_tree::{Const, Field, Init, Scalar, Shape, TopicDecl};
+use sot_syntax_tree::{Const, Field, Init, Scalar, Shape, TopicDecl};
 use std::alloc::{AllocError, Global};
 
 fn lone_scalar(topic: u32, s: Scalar, c: Const) -> ScalarInfo

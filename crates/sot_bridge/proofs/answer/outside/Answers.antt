@@ -1,6 +1,6 @@
 use Rattle.std.proofs.Common.{◌≡◌, ℕ, ℤ, List, ◌++◌, sym, ap, ◌∙◌, subst, length}
 use Rattle.sot_world.specs.Opens.{IsFirstOutside}
-use Rattle.sot_program_answers.specs.Starts.{IsOutsideLine}
+use Rattle.sot_cli.specs.Starts.{IsOutsideLine}
 use Rattle.sot_bridge.specs.Answers.{word_of}
 use Rattle.sot_bridge.proofs.answer.outside.Goals as goal
 

@@ -3,7 +3,7 @@ use Rattle.sot_sections.specs.declared.mission.Need.TheVariants as needs
 use Rattle.sot_report.specs.Missions.{HasFault}
 use Rattle.sot_report.specs.Loads.{IfFault}
 use Rattle.sot_report.specs.FaultTexts.{fault_text}
-use Rattle.sot_bridge_input.specs.Halves.{halves_seen, halves_of}
+use Rattle.sot_bridge.specs.MissionHalves.{halves_seen, halves_of}
 use Rattle.sot_bridge.specs.declared.answer.Which.TheVariants.{A}
 use Rattle.sot_bridge.specs.Answers.{word_of}
 use Rattle.sot_bridge.proofs.Halved.{halves_short, divided, undivided}

@@ -1,8 +1,8 @@
 use Rattle.std.proofs.Common.{ℕ, List, refl, sym, subst, arith}
 use Rattle.std.specs.String.{string_bytes}
 use Rattle.sot_lists.proofs.Places.{read_at}
-use Rattle.sot_bridge_input.specs.Words.{Asks}
-use Rattle.sot_bridge.proofs.Words.{three, asks_these}
+use Rattle.sot_bridge.specs.Words.{Asks}
+use Rattle.sot_bridge.proofs.DelayWords.{three, asks_these}
 use Rattle.sot_bridge.proofs.top.asked.Goals as goal
 
 pub bounds-words-0 : goal.bounds-words-0

@@ -1,5 +1,5 @@
 use Rattle.std.proofs.Common.{arith}
-use Rattle.sot_program_answers.proofs.Endings.{input_result}
+use Rattle.sot_cli.proofs.Endings.{input_result}
 use Rattle.sot_bridge.specs.Answers.{Replies}
 use Rattle.sot_bridge.proofs.top.perform.Goals as goal
 

@@ -1,4 +1,4 @@
-use Rattle.sot_halving.proofs.Covering.{failing_each}
+use Rattle.sot_certify.proofs.Covering.{failing_each}
 use Rattle.sot_certify.specs.Made.{IsGood, region_of}
 use Rattle.sot_certify.proofs.laws.failing_points_leave.Goals as goal
 

@@ -1,4 +1,4 @@
-use Rattle.sot_halving.proofs.Agreement.{each_agree}
+use Rattle.sot_certify.proofs.Agreement.{each_agree}
 use Rattle.sot_certify.specs.Made.{IsGood, region_of}
 use Rattle.sot_certify.proofs.laws.lists_are_found_once.Goals as goal
 

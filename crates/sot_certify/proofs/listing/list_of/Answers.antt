@@ -1,7 +1,7 @@
 use Rattle.std.proofs.Common.{◌≡◌, ◌<◌, [], ◌++◌, ◌-◌, take, ap, sym, ◌∙◌, subst}
 use Rattle.std.specs.Prelude.{reverse}
 use Rattle.sot_lang.specs.OwnerNames.{width_of}
-use Rattle.sot_halving.proofs.Effort.{effort}
+use Rattle.sot_certify.proofs.Effort.{effort}
 use Rattle.sot_certify.specs.Made.{IsGood, region_of}
 use Rattle.sot_certify.proofs.Taking.{Stands, begins, next_width, goes_on, falls, region_widths, not_made, is_list}
 use Rattle.sot_certify.proofs.listing.list_of.Goals as goal

@@ -1,6 +1,6 @@
 use Rattle.std.proofs.Common.{◌≡◌, ℤ, List, IfOk, sym, ap, ◌∙◌, subst, length}
 use Rattle.sot_world.specs.Opens.{IsFirstOutside}
-use Rattle.sot_program_answers.specs.Starts.{IsOutsideLine}
+use Rattle.sot_cli.specs.Starts.{IsOutsideLine}
 use Rattle.sot_commands.proofs.answer.outside.Goals as goal
 
 pub outside-requires-clause-all : goal.outside-requires-clause-all

@@ -1,5 +1,5 @@
 use Rattle.std.proofs.Common.{inl, refl, sym, subst}
-use Rattle.sot_tree.specs.TreeViews.{program_view}
+use Rattle.sot_syntax_tree.specs.TreeViews.{program_view}
 use Rattle.sot_certified_text.specs.ReadAgain.{IsCertificateOf}
 use Rattle.sot_commands.specs.Answers.{SpellsAccepted}
 use Rattle.sot_commands.specs.Steps.{IsWritten}

@@ -1,6 +1,6 @@
-use Rattle.sot_tree.specs.TreeViews.{program_view}
+use Rattle.sot_syntax_tree.specs.TreeViews.{program_view}
 use Rattle.sot_typing.proofs.Meets.{tables_meet}
-use Rattle.sot_law_format.proofs.FormedPrograms.{spelled_formed}
+use Rattle.sot_law_print_parse.proofs.FormedPrograms.{spelled_formed}
 use Rattle.sot_commands.proofs.Certified.{tables_result, mistyped_result}
 use Rattle.sot_commands.proofs.certify.certify_tree.Goals as goal
 

@@ -6,7 +6,7 @@ use Rattle.sot_world.specs.Opens.{AreStarts}
 use Rattle.sot_trace.specs.Fitting.{FitsHistory}
 use Rattle.sot_trace.specs.Lines.{ticks_in}
 use Rattle.sot_monitor.specs.Holding.{AlwaysHolds, FirstFails}
-use Rattle.sot_watch.specs.Moments.{moments_told}
+use Rattle.sot_monitor.specs.Moments.{moments_told}
 use Rattle.sot_commands.proofs.Watching.{board_starts, board_fits, board_ticks}
 use Rattle.sot_commands.proofs.flight_text.first_false.Goals as goal
 

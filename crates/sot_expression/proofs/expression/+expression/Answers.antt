@@ -1,7 +1,7 @@
 use Rattle.std.proofs.Common.{◌≡◌, ◌<◌, ◌≤◌, ◌+◌, ◌-◌, false, codes, max, arith, refl, sym, ◌∙◌, ap, subst}
 use Rattle.std.proofs.lemmas.Int.{clamps}
 use Rattle.std.proofs.lemmas.Result.{err_from_is_err_and}
-use Rattle.sot_tree.specs.TreeViews.{tree_view}
+use Rattle.sot_syntax_tree.specs.TreeViews.{tree_view}
 use Rattle.sot_expression.specs.declared.fail.Fail.{Fail}
 use Rattle.sot_expression.specs.Lexemes.{begins, is_keyword}
 use Rattle.sot_expression.specs.Operators.{tier_of_infix}

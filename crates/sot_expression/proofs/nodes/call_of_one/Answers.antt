@@ -1,6 +1,6 @@
 use Rattle.std.proofs.Common.{rules, ◌≡◌, [], ◌∷◌, subst}
-use Rattle.sot_tree.specs.Trees.{called}
-use Rattle.sot_tree.specs.TreeViews.{tree_view, parts_view}
+use Rattle.sot_syntax_tree.specs.Trees.{called}
+use Rattle.sot_syntax_tree.specs.TreeViews.{tree_view, parts_view}
 use Rattle.sot_expression.specs.Returned.{Makes}
 use Rattle.sot_expression.proofs.nodes.call_of_one.Goals as goal
 

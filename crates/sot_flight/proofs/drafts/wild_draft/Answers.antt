@@ -10,7 +10,7 @@ use Rattle.sot_lang.specs.Ranges.{write_ranges, range_of}
 use Rattle.sot_code.specs.Recorded.{in_slots}
 use Rattle.sot_code.proofs.Filling.{read_word, put_more}
 use Rattle.sot_flight.specs.Draws.{drawn_from}
-use Rattle.sot_generator_words.proofs.Words.{words_on}
+use Rattle.sot_random_words.proofs.Words.{words_on}
 use Rattle.sot_flight.proofs.Drawn.{drawn_read, drawn_at, length-drawn_from}
 use Rattle.sot_flight.proofs.Bounds.{write_at}
 use Rattle.sot_flight.proofs.EightSlots.{put_all}

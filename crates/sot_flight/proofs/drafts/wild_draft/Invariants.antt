@@ -1,7 +1,7 @@
 use Rattle.std.proofs.Common.{◌≡◌, ◌+◌, ◌-◌, ◌++◌, take, map}
 use Rattle.std.specs.Prelude.{Some, None, replicate}
 use Rattle.sot_lang.specs.Ranges.{write_ranges}
-use Rattle.sot_generator_words.specs.Words.{words_from}
+use Rattle.sot_random_words.specs.Words.{words_from}
 use Rattle.sot_flight.specs.Draws.{drawn_from}
 use Rattle.sot_flight.proofs.drafts.wild_draft.Given as goal
 

@@ -3,7 +3,7 @@ use Rattle.std.proofs.lemmas.Option.{slice_get_read, slice_get-get_or}
 use Rattle.rand_pcg.specs.Pcg.{output_xsh_rr}
 use Rattle.sot_lists.specs.Places.{At}
 use Rattle.sot_code.proofs.Filling.{read_word}
-use Rattle.sot_generator_words.specs.Words.{word}
+use Rattle.sot_random_words.specs.Words.{word}
 use Rattle.sot_flight.specs.Stated.{noise_of}
 use Rattle.sot_flight.specs.Fits.{FitsSway}
 use Rattle.sot_flight.specs.FlightView.{sway_of}

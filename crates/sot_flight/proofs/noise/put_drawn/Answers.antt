@@ -5,7 +5,7 @@ use Rattle.rand_pcg.specs.Pcg.{output_xsh_rr}
 use Rattle.sot_lang.specs.Ranges.{bounds}
 use Rattle.sot_code.proofs.Filling.{taken_behind, read_word}
 use Rattle.sot_flight.specs.Draws.{drawn_from}
-use Rattle.sot_generator_words.proofs.Words.{words_on}
+use Rattle.sot_random_words.proofs.Words.{words_on}
 use Rattle.sot_flight.proofs.Drawn.{drawn_read}
 use Rattle.sot_flight.proofs.Bounds.{noise_drawn_at, length-noise_drawn}
 use Rattle.sot_flight.proofs.noise.put_drawn.Goals as goal

@@ -1,6 +1,6 @@
 use Rattle.std.proofs.Common.{◌≡◌, ◌+◌, ◌++◌, length, take}
 use Rattle.sot_lang.specs.Ranges.{bounds}
-use Rattle.sot_generator_words.specs.Words.{words_from}
+use Rattle.sot_random_words.specs.Words.{words_from}
 use Rattle.sot_flight.specs.Draws.{drawn_from}
 use Rattle.sot_flight.proofs.noise.put_drawn.Given as goal
 

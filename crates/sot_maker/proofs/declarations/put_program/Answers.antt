@@ -2,9 +2,9 @@ use Rattle.std.proofs.Common.{◌≡◌, ◌++◌, ◌-◌, ap, ◌∙◌, arith
 use Rattle.std.specs.String.{string_bytes}
 use Rattle.rand_pcg.specs.Pcg.{output_xsh_rr, multiplier_64}
 use Rattle.rand_pcg.specs.Lcg.{next, state_after}
-use Rattle.sot_generator_words.specs.Words.{words_from}
+use Rattle.sot_random_words.specs.Words.{words_from}
 use Rattle.sot_maker.specs.Declarations.{mission_stream, declarations_from, program_text}
-use Rattle.sot_generator_words.proofs.Words.{words_more}
+use Rattle.sot_random_words.proofs.Words.{words_more}
 use Rattle.sot_maker.proofs.Declared.{module_more, modules_all}
 use Rattle.sot_maker.proofs.declarations.put_program.Goals as goal
 

@@ -1,7 +1,7 @@
 -- What the loop of `put_program` keeps.
 use Rattle.std.proofs.Common.{◌≡◌, ◌++◌, ◌-◌}
 use Rattle.std.specs.String.{string_bytes}
-use Rattle.sot_generator_words.specs.Words.{words_from}
+use Rattle.sot_random_words.specs.Words.{words_from}
 use Rattle.sot_maker.specs.Declarations.{mission_stream, declarations_from, program_text}
 use Rattle.sot_maker.proofs.declarations.put_program.Given as goal
 

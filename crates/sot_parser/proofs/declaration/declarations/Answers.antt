@@ -1,7 +1,7 @@
 use Rattle.std.proofs.Common.{sym, ◌∙◌, refl, map}
 use Rattle.std.proofs.lemmas.Result.{err_from_is_err_and}
 use Rattle.sot_parser.proofs.Loops.{begun, stops, breaks_so, again_seen}
-use Rattle.sot_tree.specs.TreeViews.{declaration_view}
+use Rattle.sot_syntax_tree.specs.TreeViews.{declaration_view}
 use Rattle.sot_parser.specs.DeclarationReaders.{declaration_at, declarations_at, is_some}
 use Rattle.sot_parser.proofs.Shorter.{declaration_short}
 use Rattle.sot_parser.proofs.declaration.declarations.Goals as goal

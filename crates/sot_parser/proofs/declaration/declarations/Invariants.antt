@@ -1,6 +1,6 @@
 use Rattle.std.proofs.Common.{◌≡◌, map, length}
 use Rattle.sot_parser.proofs.Loops.{Loop}
-use Rattle.sot_tree.specs.TreeViews.{declaration_view}
+use Rattle.sot_syntax_tree.specs.TreeViews.{declaration_view}
 use Rattle.sot_parser.specs.DeclarationReaders.{declaration_at, declarations_at, is_some}
 use Rattle.sot_parser.proofs.declaration.declarations.Given as goal
 

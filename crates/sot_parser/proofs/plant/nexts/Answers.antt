@@ -1,7 +1,7 @@
 use Rattle.std.proofs.Common.{sym, ◌∙◌, refl, map, codes}
 use Rattle.std.proofs.lemmas.Result.{err_from_is_err_and}
 use Rattle.sot_parser.proofs.Loops.{begun, stops, breaks_so, again_seen}
-use Rattle.sot_tree.specs.TreeViews.{next_view}
+use Rattle.sot_syntax_tree.specs.TreeViews.{next_view}
 use Rattle.sot_expression.specs.Lexemes.{begins, is_keyword}
 use Rattle.sot_parser.specs.ListReaders.{all_at}
 use Rattle.sot_parser.specs.DeclarationReaders.{next_at}

@@ -1,6 +1,6 @@
 use Rattle.std.proofs.Common.{◌≡◌, map, length, codes}
 use Rattle.sot_parser.proofs.Loops.{Loop}
-use Rattle.sot_tree.specs.TreeViews.{next_view}
+use Rattle.sot_syntax_tree.specs.TreeViews.{next_view}
 use Rattle.sot_expression.specs.Lexemes.{begins, is_keyword}
 use Rattle.sot_parser.specs.ListReaders.{all_at}
 use Rattle.sot_parser.specs.DeclarationReaders.{next_at}

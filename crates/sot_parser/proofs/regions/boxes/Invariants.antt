@@ -1,5 +1,5 @@
 use Rattle.std.proofs.Common.{◌≡◌, map, length, codes}
-use Rattle.sot_tree.specs.TreeViews.{area_view}
+use Rattle.sot_syntax_tree.specs.TreeViews.{area_view}
 use Rattle.sot_expression.specs.Lexemes.{begins, is_sign}
 use Rattle.sot_parser.specs.ListReaders.{further_at, separated_at}
 use Rattle.sot_parser.specs.DeclarationReaders.{box_at}

@@ -2,10 +2,10 @@ use Rattle.std.proofs.Common.{Ok, ap, sym, ◌∙◌, refl, map}
 use Rattle.std.specs.Global.{Vec}
 use Rattle.std.proofs.lemmas.Result.{err_from_is_err_and}
 use Rattle.sot_parser.proofs.Loops.{begun, stops, breaks_so, again_seen}
-use Rattle.sot_tree.specs.declared.tree.Expr.{Expr}
-use Rattle.sot_tree.specs.declared.tree.Branch.{Branch}
-use Rattle.sot_tree.specs.declared.tree.Stmt.{Stmt}
-use Rattle.sot_tree.specs.TreeViews.{tree_view, statement_view, block_view}
+use Rattle.sot_syntax_tree.specs.declared.tree.Expr.{Expr}
+use Rattle.sot_syntax_tree.specs.declared.tree.Branch.{Branch}
+use Rattle.sot_syntax_tree.specs.declared.tree.Stmt.{Stmt}
+use Rattle.sot_syntax_tree.specs.TreeViews.{tree_view, statement_view, block_view}
 use Rattle.sot_parser.specs.ListReaders.{all_at}
 use Rattle.sot_expression.specs.ExpressionReaders.{tree_at}
 use Rattle.sot_parser.specs.StatementReaders.{block_at, goes_on, statement_at}

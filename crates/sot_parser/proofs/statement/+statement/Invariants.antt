@@ -1,5 +1,5 @@
 use Rattle.std.proofs.Common.{◌≡◌, ◌+◌, ◌*◌, map, length}
-use Rattle.sot_tree.specs.TreeViews.{statement_view}
+use Rattle.sot_syntax_tree.specs.TreeViews.{statement_view}
 use Rattle.sot_parser.specs.ListReaders.{all_at}
 use Rattle.sot_parser.specs.StatementReaders.{goes_on, statement_at}
 use Rattle.sot_parser.proofs.Loops.{Loop}

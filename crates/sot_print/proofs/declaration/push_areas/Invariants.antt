@@ -1,6 +1,6 @@
 use Rattle.std.proofs.Common.{◌≡◌, ◌==◌, ◌++◌, true, drop, map}
 use Rattle.std.specs.String.{string_bytes}
-use Rattle.sot_tree.specs.TreeViews.{area_view}
+use Rattle.sot_syntax_tree.specs.TreeViews.{area_view}
 use Rattle.sot_print.specs.Words.{laid}
 use Rattle.sot_print.specs.Canonical.{areas_from}
 use Rattle.sot_print.proofs.declaration.push_areas.Given as goal

@@ -1,6 +1,6 @@
 use Rattle.std.proofs.Common.{◌∙◌, map, refl}
 use Rattle.std.specs.String.{string_bytes}
-use Rattle.sot_tree.specs.TreeViews.{local_view}
+use Rattle.sot_syntax_tree.specs.TreeViews.{local_view}
 use Rattle.sot_print.specs.Canonical.{each, local_clause}
 use Rattle.sot_print.proofs.Lists.{one_step}
 use Rattle.sot_print.proofs.declaration.push_local_clauses.Goals as goal

@@ -1,6 +1,6 @@
 use Rattle.std.proofs.Common.{◌≡◌, ◌++◌, drop, map}
 use Rattle.std.specs.String.{string_bytes}
-use Rattle.sot_tree.specs.TreeViews.{local_view}
+use Rattle.sot_syntax_tree.specs.TreeViews.{local_view}
 use Rattle.sot_print.specs.Words.{laid}
 use Rattle.sot_print.specs.Canonical.{each, local_clause}
 use Rattle.sot_print.proofs.declaration.push_local_clauses.Given as goal

@@ -1,6 +1,6 @@
 use Rattle.std.proofs.Common.{◌∙◌, map, refl}
 use Rattle.std.specs.String.{string_bytes}
-use Rattle.sot_tree.specs.TreeViews.{next_view}
+use Rattle.sot_syntax_tree.specs.TreeViews.{next_view}
 use Rattle.sot_print.specs.Canonical.{each, next_clause}
 use Rattle.sot_print.proofs.Lists.{one_step}
 use Rattle.sot_print.proofs.declaration.push_next_clauses.Goals as goal

@@ -1,7 +1,7 @@
 use Rattle.std.proofs.Common.{◌∙◌, ◌++◌, map, ap, sym}
 use Rattle.std.specs.String.{string_bytes}
 use Rattle.std.proofs.lemmas.Result.{IfOk-equal}
-use Rattle.sot_tree.specs.TreeViews.{next_view, plant_view}
+use Rattle.sot_syntax_tree.specs.TreeViews.{next_view, plant_view}
 use Rattle.sot_print.specs.Words.{laid}
 use Rattle.sot_print.specs.Canonical.{each, next_clause}
 use Rattle.sot_print.proofs.Declarations.{plant_bytes, plant_written}

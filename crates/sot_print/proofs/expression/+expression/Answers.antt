@@ -2,8 +2,8 @@ use Rattle.std.proofs.Common.{◌∙◌, ◌++◌, codes, ap, sym}
 use Rattle.std.specs.Global.{Vec}
 use Rattle.std.specs.String.{string_bytes}
 use Rattle.std.proofs.lemmas.Result.{IfOk-equal}
-use Rattle.sot_tree.specs.declared.tree.Expr.{Expr}
-use Rattle.sot_tree.specs.TreeViews.{tree_view}
+use Rattle.sot_syntax_tree.specs.declared.tree.Expr.{Expr}
+use Rattle.sot_syntax_tree.specs.TreeViews.{tree_view}
 use Rattle.sot_print.specs.declared.gap.Gap.TheVariants.{Touching}
 use Rattle.sot_print.specs.Words.{blanks, laid}
 use Rattle.sot_print.specs.Leaves.{listed}

@@ -1,5 +1,5 @@
 use Rattle.std.proofs.Common.{◌++◌, ◌∙◌, true, map, ap, sym, ◌≡◌, ◌==◌, false, length, [], ◌∷◌}
-use Rattle.sot_tree.specs.TreeViews.{declaration_view}
+use Rattle.sot_syntax_tree.specs.TreeViews.{declaration_view}
 use Rattle.sot_print.specs.Words.{laid}
 use Rattle.sot_print.specs.Canonical.{declarations_from}
 use Rattle.sot_print.proofs.Declarations.{program_ends}

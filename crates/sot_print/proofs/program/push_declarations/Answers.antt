@@ -1,6 +1,6 @@
 use Rattle.std.proofs.Common.{◌++◌, ◌∙◌, ap, map, refl}
 use Rattle.std.specs.String.{string_bytes}
-use Rattle.sot_tree.specs.TreeViews.{declaration_view}
+use Rattle.sot_syntax_tree.specs.TreeViews.{declaration_view}
 use Rattle.sot_print.specs.Words.{laid}
 use Rattle.sot_print.specs.Canonical.{own_line, declaration_words, declarations_from}
 use Rattle.sot_print.proofs.Lists.{one_step}

@@ -1,6 +1,6 @@
 use Rattle.std.proofs.Common.{◌≡◌, ◌==◌, ◌++◌, true, drop, map}
 use Rattle.std.specs.String.{string_bytes}
-use Rattle.sot_tree.specs.TreeViews.{declaration_view}
+use Rattle.sot_syntax_tree.specs.TreeViews.{declaration_view}
 use Rattle.sot_print.specs.Words.{laid}
 use Rattle.sot_print.specs.Canonical.{declarations_from}
 use Rattle.sot_print.proofs.program.push_declarations.Given as goal

@@ -1,8 +1,8 @@
 use Rattle.std.proofs.Common.{◌∙◌, ◌++◌, ap, sym, refl}
 use Rattle.std.specs.String.{string_bytes}
 use Rattle.std.proofs.lemmas.Result.{IfOk-equal}
-use Rattle.sot_tree.specs.declared.tree.Branch.{Branch}
-use Rattle.sot_tree.specs.TreeViews.{tree_view, statement_view, block_view}
+use Rattle.sot_syntax_tree.specs.declared.tree.Branch.{Branch}
+use Rattle.sot_syntax_tree.specs.TreeViews.{tree_view, statement_view, block_view}
 use Rattle.sot_print.specs.declared.gap.Gap.TheVariants.{Line, Space}
 use Rattle.sot_print.specs.Words.{blanks, laid}
 use Rattle.sot_print.specs.Expressions.{expression_words}

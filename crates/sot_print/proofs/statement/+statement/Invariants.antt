@@ -1,6 +1,6 @@
 use Rattle.std.proofs.Common.{◌≡◌, ◌++◌, drop}
 use Rattle.std.specs.String.{string_bytes}
-use Rattle.sot_tree.specs.TreeViews.{block_view}
+use Rattle.sot_syntax_tree.specs.TreeViews.{block_view}
 use Rattle.sot_print.specs.Words.{laid}
 use Rattle.sot_print.specs.Statements.{block_words}
 use Rattle.sot_print.proofs.statement.+statement.Given as goal

@@ -2,7 +2,7 @@ use Rattle.std.proofs.Common.{◌≡◌, ℕ, ◌+◌, List, length, drop, sym, 
 use Rattle.sot_lists.specs.Places.{At}
 use Rattle.sot_box.specs.Sides.{Side}
 use Rattle.sot_box.specs.Regions.{Covers}
-use Rattle.sot_meeting_boxes.proofs.Sides.{dropped_at}
+use Rattle.sot_recover.proofs.Sides.{dropped_at}
 use Rattle.sot_recover.proofs.CellTubes.{account, wide_in}
 use Rattle.sot_recover.proofs.Landings.{tube_width, first_inside, each_covered, covered_each}
 use Rattle.sot_recover.proofs.ground.each_lands.Goals as goal

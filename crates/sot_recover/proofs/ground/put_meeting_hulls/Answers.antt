@@ -1,7 +1,7 @@
 use Rattle.std.proofs.Common.{List, subst}
 use Rattle.sot_lists.proofs.Places.{at_same}
 use Rattle.sot_box.specs.Sides.{Side}
-use Rattle.sot_meeting_boxes.specs.Meeting.{Meet}
+use Rattle.sot_recover.specs.Meeting.{Meet}
 use Rattle.sot_recover.proofs.ground.put_meeting_hulls.Goals as goal
 
 pub returns : goal.returns

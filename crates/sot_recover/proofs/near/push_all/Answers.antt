@@ -1,6 +1,6 @@
 use Rattle.std.proofs.Common.{◌≡◌, ◌⊎◌, inl, inr, ⊎_elim, sym, ◌∙◌, subst, arith}
 use Rattle.std.specs.Prelude.{slice_index_or}
-use Rattle.sot_ranking.proofs.Sets.{one_more, has_read, read_has}
+use Rattle.sot_recover.proofs.Sets.{one_more, has_read, read_has}
 use Rattle.sot_recover.specs.Near.{IsInChosen}
 use Rattle.sot_recover.proofs.near.push_all.Goals as goal
 

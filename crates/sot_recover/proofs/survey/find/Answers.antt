@@ -5,8 +5,8 @@ use Rattle.sot_box.specs.Sides.{Side}
 use Rattle.sot_box.specs.Regions.{Covers}
 use Rattle.sot_lang.specs.declared.tables.ModuleInfo.{ModuleInfo}
 use Rattle.sot_lang.specs.OwnerNames.{width_of}
-use Rattle.sot_meeting_boxes.specs.Meeting.{IsAroundAll}
-use Rattle.sot_meeting_boxes.proofs.Sides.{dropped_at}
+use Rattle.sot_recover.specs.Meeting.{IsAroundAll}
+use Rattle.sot_recover.proofs.Sides.{dropped_at}
 use Rattle.sot_recover.proofs.CellTubes.{account, wide_in}
 use Rattle.sot_recover.proofs.Landings.{tube_width, first_inside, hull_is, stays_where, where_stays}
 use Rattle.sot_recover.proofs.survey.find.Goals as goal

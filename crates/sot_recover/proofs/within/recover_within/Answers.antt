@@ -1,7 +1,7 @@
 use Rattle.std.specs.Prelude.{IfOk, IfErr}
-use Rattle.sot_law_recovery.specs.Holds.{Guarded, IsRecovered}
-use Rattle.sot_law_recovery.specs.Ranks.{IsRank, HasNoRank}
-use Rattle.sot_law_recovery.specs.RunHolds.{FiringsAreHolds, TrustsAfter}
+use Rattle.sot_law_runs.specs.Holds.{Guarded, IsRecovered}
+use Rattle.sot_law_runs.specs.Ranks.{IsRank, HasNoRank}
+use Rattle.sot_law_runs.specs.RunHolds.{FiringsAreHolds, TrustsAfter}
 use Rattle.sot_recover.specs.Answers.{IfNever}
 use Rattle.sot_recover.proofs.Whole.{if_ok_map, if_never_map, moved}
 use Rattle.sot_recover.proofs.within.recover_within.Goals as goal

@@ -1,7 +1,7 @@
 use Rattle.std.proofs.Common.{◌≡◌, sym, subst}
 use Rattle.sot_lang.specs.TableRules.{MeetsTableRules}
-use Rattle.sot_law_recovery.specs.Holds.{Guarded}
-use Rattle.sot_law_recovery.proofs.Rows.{guarded_modules}
+use Rattle.sot_law_runs.specs.Holds.{Guarded}
+use Rattle.sot_law_runs.proofs.Rows.{guarded_modules}
 use Rattle.sot_recovery_text.specs.declared.fail.RecoveryFail.{RecoveryFail}
 use Rattle.sot_recovery_text.specs.Recovery.{NeverRecovers, IfNeverAt}
 use Rattle.sot_recovery_text.proofs.More.{never_of}

@@ -1,4 +1,4 @@
-use Rattle.sot_closed_atoms.specs.Asking.{asked_width}
+use Rattle.sot_invariant_atoms.specs.Asking.{asked_width}
 use Rattle.sot_regions.specs.Searches.{IsBest}
 use Rattle.sot_regions.proofs.asked.coarsen.Given as goal
 

@@ -1,5 +1,5 @@
 use Rattle.std.proofs.Common.{arith}
-use Rattle.sot_closed_atoms.proofs.Extents.{low_less, high_less}
+use Rattle.sot_invariant_atoms.proofs.Extents.{low_less, high_less}
 use Rattle.sot_regions.proofs.closing.+settle.Goals as goal
 
 pub settle-requires : goal.settle-requires

@@ -1,4 +1,4 @@
-use Rattle.sot_closed_atoms.proofs.Extents.{extent}
+use Rattle.sot_invariant_atoms.proofs.Extents.{extent}
 use Rattle.sot_regions.proofs.closing.+settle.Given as goal
 
 abbrev pub decreases-settle : goal.decreases-settle

@@ -4,7 +4,7 @@ use Rattle.sot_law_fault_place.proofs.ExactPlaces.{fault_is_placed}
 use Rattle.sot_report.specs.declared.fault.Fault.TheVariants as faults
 use Rattle.sot_report.specs.declared.fault.LoadFail.TheVariants as fails
 use Rattle.sot_report.specs.Loads.{IfFault, FailsText}
-use Rattle.sot_law_format.proofs.FormedPrograms.{spelled_formed}
+use Rattle.sot_law_print_parse.proofs.FormedPrograms.{spelled_formed}
 use Rattle.sot_report.proofs.loading.load_text.Goals as goal
 
 pub load_tree-loaded-requires : goal.load_tree-loaded-requires

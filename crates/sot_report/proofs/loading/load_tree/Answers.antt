@@ -1,5 +1,5 @@
 use Rattle.std.proofs.Common.{subst, sym, ap, ◌∙◌}
-use Rattle.sot_tree.specs.TreeViews.{program_view}
+use Rattle.sot_syntax_tree.specs.TreeViews.{program_view}
 use Rattle.sot_sections.specs.Sections.{parts_of}
 use Rattle.sot_report.specs.declared.fault.Fault.TheVariants as faults
 use Rattle.sot_report.specs.declared.fault.LoadFail.TheVariants as fails

@@ -1,5 +1,5 @@
 -- Of `note_declarations`: that its loop keeps what it says.
-use Rattle.sot_tree.specs.TreeViews.{declaration_view}
+use Rattle.sot_syntax_tree.specs.TreeViews.{declaration_view}
 use Rattle.sot_rules.specs.Faults.{declaration_faults}
 use Rattle.sot_rules.specs.Indexes.{program_in}
 use Rattle.sot_rules.proofs.Loops.{step_viewed}

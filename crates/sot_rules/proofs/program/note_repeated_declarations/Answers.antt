@@ -1,7 +1,7 @@
 -- Of `note_repeated_declarations`: its promises.
 use Rattle.std.proofs.Common.{◌≡◌, [], ap, sym, subst}
 use Rattle.std.specs.Prelude.{OnOk}
-use Rattle.sot_tree.specs.TreeViews.{declaration_view}
+use Rattle.sot_syntax_tree.specs.TreeViews.{declaration_view}
 use Rattle.sot_rules.specs.Names.{declared_name}
 use Rattle.sot_rules.specs.Faults.{least, repeats}
 use Rattle.sot_rules.proofs.Mapped.{map_twice}

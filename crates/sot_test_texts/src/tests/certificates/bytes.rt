@@ -1,6 +1,6 @@
 //! Bytes that are no JSON.
 use super::{same, says};
-use sot_test_missions::line;
+use sot_worked_missions::line;
 use std::alloc::Global;
 use std::process::Abort;
 

@@ -1,7 +1,7 @@
 //! Each kind of fault at its paths.
 use super::{answered, said, same, say};
 use sot_lang::Typed;
-use sot_test_missions::line;
+use sot_worked_missions::line;
 use std::alloc::Global;
 use std::process::Abort;
 

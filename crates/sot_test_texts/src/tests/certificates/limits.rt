@@ -4,7 +4,7 @@ use sot_cert::{CertFail, read_cert};
 use sot_json::JsonKind;
 use sot_lang::{Cert, Typed};
 use sot_ports::Process;
-use sot_test_missions::line;
+use sot_worked_missions::line;
 use std::alloc::Global;
 use std::process::Abort;
 

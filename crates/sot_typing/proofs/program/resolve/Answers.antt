@@ -1,7 +1,7 @@
 -- Of `resolve`: what its calls ask for, and its promises.
 use Rattle.std.proofs.Common.{◌≡◌, sym, subst}
 use Rattle.std.specs.Prelude.{IfOk, IfErr}
-use Rattle.sot_tree.specs.Formed.{IsFormed}
+use Rattle.sot_syntax_tree.specs.Formed.{IsFormed}
 use Rattle.sot_rules.specs.declared.fault.TypeFault.{TypeFault}
 use Rattle.sot_rules.specs.declared.fault.TypeFail.TheVariants.{Fault}
 use Rattle.sot_rules.specs.First.{IsFirstFault, IsFaultless}

@@ -1,6 +1,6 @@
 use Rattle.std.proofs.Common.{◌≡◌}
 use Rattle.sot_turn.specs.Passes.{lock_of, pass_lock}
-use Rattle.sot_node_worker.specs.Shifts.{IsOnShift}
+use Rattle.sot_fly_worker.specs.Shifts.{IsOnShift}
 use Rattle.sot_workers.proofs.join.finish.Given as goal
 
 abbrev pub invariant-loop : goal.invariant-loop

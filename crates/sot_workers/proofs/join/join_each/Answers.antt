@@ -5,7 +5,7 @@ use Rattle.sot_workers.specs.Sent.{IsPlaced, IsDone}
 use Rattle.sot_workers.specs.Pairs.{EachFrom}
 use Rattle.sot_workers.proofs.Histories.{goes_here, goes_further}
 use Rattle.sot_workers.proofs.Coming.{AreComing, each_map, coming_begins, coming_next, coming_more, coming_ends}
-use Rattle.sot_node_worker.proofs.Firing.{nil_of}
+use Rattle.sot_fly_worker.proofs.Firing.{nil_of}
 use Rattle.sot_workers.proofs.Placing.{IsDoneIn, seen_later}
 use Rattle.sot_workers.proofs.join.join_each.Goals as goal
 

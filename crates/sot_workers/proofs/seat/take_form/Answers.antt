@@ -1,7 +1,7 @@
 use Rattle.std.proofs.Common.{◌<◌, length, refl, sym, subst, arith}
 use Rattle.std.specs.Prelude.{slice_set}
 use Rattle.std.proofs.lemmas.Option.{slice_get_read}
-use Rattle.sot_flat_code.specs.FlatForm.{IsFormOf}
+use Rattle.sot_eval_flat.specs.FlatForm.{IsFormOf}
 use Rattle.sot_workers.specs.Forms.{AreFormsOf}
 use Rattle.sot_workers.proofs.FormFacts.{forms_taken}
 use Rattle.sot_workers.proofs.seat.take_form.Goals as goal

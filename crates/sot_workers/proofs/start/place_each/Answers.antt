@@ -4,7 +4,7 @@ use Rattle.sot_turn.specs.Passes.{lock_of}
 use Rattle.sot_workers.specs.Sent.{IsPlaced}
 use Rattle.sot_workers.specs.Pairs.{EachFrom}
 use Rattle.sot_workers.proofs.Coming.{AreComing, Same, each_same, coming_begins, coming_more, coming_ends}
-use Rattle.sot_node_worker.proofs.Firing.{nil_of}
+use Rattle.sot_fly_worker.proofs.Firing.{nil_of}
 use Rattle.sot_workers.proofs.start.place_each.Goals as goal
 
 pub loop-guest-init : goal.loop-guest-init

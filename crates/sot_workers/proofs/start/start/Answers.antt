@@ -1,6 +1,6 @@
 use denote.Exit.{no}
 use denote.Param.Send.{param_send, arg_send, shr_send}
-use Rattle.sot_node_worker.proofs.bells.Bells.TheSendSync as bells
+use Rattle.sot_fly_worker.proofs.bells.Bells.TheSendSync as bells
 use Rattle.sot_workers.proofs.Crossing.{shift_send, turn_sync, closure_send}
 use Rattle.sot_workers.proofs.start.start.Goals as goal
 

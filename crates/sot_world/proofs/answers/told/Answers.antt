@@ -1,5 +1,5 @@
 use Rattle.std.proofs.Common.{◌≡◌, subst}
-use Rattle.sot_world.specs.declared.answers.Answer.TheVariants.{Given}
+use Rattle.sot_world.specs.declared.answers.KeepsAnswer.TheVariants.{Given}
 use Rattle.sot_world.proofs.answers.told.Goals as goal
 
 pub returns-then-is_same : goal.returns-then-is_same

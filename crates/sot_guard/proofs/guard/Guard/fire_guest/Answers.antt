@@ -10,7 +10,7 @@ use Rattle.sot_world.specs.Configurations.{is_left, locals_of}
 use Rattle.sot_world.specs.Steps.{Guest, allowed_by}
 use Rattle.sot_world.specs.Events.{slot_count}
 use Rattle.sot_world.proofs.FiringSteps.{guest_so, published_along}
-use Rattle.sot_law_observed.proofs.Steps.{step_keeps}
+use Rattle.sot_law_observed_runs.proofs.Steps.{step_keeps}
 use Rattle.sot_guard.specs.GuardView.{configuration}
 use Rattle.sot_guard.proofs.Guards.{fires_guards}
 use Rattle.sot_guard.proofs.Along.{guest_along}

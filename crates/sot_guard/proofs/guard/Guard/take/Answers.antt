@@ -9,7 +9,7 @@ use Rattle.sot_lang.proofs.Topics.{topic_inside}
 use Rattle.sot_world.specs.Steps.{Input, write_at}
 use Rattle.sot_world.specs.Events.{IsTypedInput}
 use Rattle.sot_world.proofs.Stepping.{inputs_so}
-use Rattle.sot_law_observed.proofs.Steps.{step_keeps}
+use Rattle.sot_law_observed_runs.proofs.Steps.{step_keeps}
 use Rattle.sot_guard.specs.GuardView.{configuration}
 use Rattle.sot_guard.proofs.Guards.{input_guards}
 use Rattle.sot_guard.proofs.Along.{inputs_along}

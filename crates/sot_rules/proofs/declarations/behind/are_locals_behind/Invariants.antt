@@ -1,6 +1,6 @@
 -- The loop of `are_locals_behind`: what is left decides.
 use Rattle.std.proofs.Common.{◌≡◌, drop, map}
-use Rattle.sot_tree.specs.TreeViews.{local_view}
+use Rattle.sot_syntax_tree.specs.TreeViews.{local_view}
 use Rattle.sot_rules.specs.Behind.{locals_behind}
 use Rattle.sot_rules.proofs.declarations.behind.are_locals_behind.Given as goal
 

@@ -1,7 +1,7 @@
 -- The loop of `note_past_kind`: what is noted, and then what is left.
 use Rattle.std.proofs.Common.{◌≡◌, map, drop}
 use Rattle.std.specs.Prelude.{filter_map}
-use Rattle.sot_tree.specs.TreeViews.{declaration_view}
+use Rattle.sot_syntax_tree.specs.TreeViews.{declaration_view}
 use Rattle.sot_rules.specs.Lists.{places}
 use Rattle.sot_rules.specs.Faults.{least, past}
 use Rattle.sot_rules.specs.Kinds.{name_of}

@@ -1,6 +1,6 @@
 -- Of `note_past_boxes`: its promises.
 use Rattle.std.proofs.Common.{ap, sym, get_or}
-use Rattle.sot_tree.specs.TreeViews.{area_view}
+use Rattle.sot_syntax_tree.specs.TreeViews.{area_view}
 use Rattle.sot_rules.proofs.Limits.{past_noted, none_past}
 use Rattle.sot_rules.proofs.declarations.limit.note_past_boxes.Goals as goal
 

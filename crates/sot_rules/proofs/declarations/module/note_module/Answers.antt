@@ -1,6 +1,6 @@
 -- Of `note_module`: its promises.
 use Rattle.std.proofs.Common.{◌∙◌, ◌&&◌, not, ap, ap₂, map}
-use Rattle.sot_tree.specs.TreeViews.{area_view, module_view}
+use Rattle.sot_syntax_tree.specs.TreeViews.{area_view, module_view}
 use Rattle.sot_rules.specs.declared.fault.TypeKind.TheVariants.{Unknown, Twice, KindDiffers}
 use Rattle.sot_rules.specs.Names.{meaning, is_topic, is_plant, is_node, is_external}
 use Rattle.sot_rules.specs.Lists.{are_same}

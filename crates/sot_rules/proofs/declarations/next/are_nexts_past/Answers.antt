@@ -1,6 +1,6 @@
 -- Of `are_nexts_past`: its promise.
 use Rattle.std.proofs.Common.{◌≡◌, ◌∙◌, ap, map, subst, sym}
-use Rattle.sot_tree.specs.TreeViews.{next_view, plant_view}
+use Rattle.sot_syntax_tree.specs.TreeViews.{next_view, plant_view}
 use Rattle.sot_rules.specs.Faults.{least}
 use Rattle.sot_rules.specs.Nexts.{nexts_faults}
 use Rattle.sot_rules.specs.Behind.{nexts_behind}

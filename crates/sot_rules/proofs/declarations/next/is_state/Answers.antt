@@ -1,7 +1,7 @@
 -- Of `is_state`: its promises.
 use Rattle.std.proofs.Common.{◌∙◌, length, ap, refl, sym}
 use Rattle.std.proofs.lemmas.Option.{slice_get_read, slice_get_past}
-use Rattle.sot_tree.specs.declared.tree.StateDecl.{StateDecl}
+use Rattle.sot_syntax_tree.specs.declared.tree.StateDecl.{StateDecl}
 use Rattle.sot_rules.specs.Lists.{are_same}
 use Rattle.sot_rules.specs.Tests.{is_state}
 use Rattle.sot_rules.proofs.declarations.next.is_state.Goals as goal

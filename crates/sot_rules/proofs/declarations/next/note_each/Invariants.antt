@@ -1,6 +1,6 @@
 -- The loop of `note_each`: what is noted, and then what is left.
 use Rattle.std.proofs.Common.{◌≡◌, drop, flat_map, map}
-use Rattle.sot_tree.specs.TreeViews.{next_view}
+use Rattle.sot_syntax_tree.specs.TreeViews.{next_view}
 use Rattle.sot_rules.specs.Faults.{least}
 use Rattle.sot_rules.specs.Scopes.{names_in}
 use Rattle.sot_rules.specs.Nexts.{next_faults_in}

@@ -1,6 +1,6 @@
 -- Of `note_nexts_by`: its promises.
 use Rattle.std.proofs.Common.{◌∙◌, [], ap, ap₂, flat_map, length, map, nat_lt}
-use Rattle.sot_tree.specs.TreeViews.{next_view, plant_view}
+use Rattle.sot_syntax_tree.specs.TreeViews.{next_view, plant_view}
 use Rattle.sot_rules.specs.declared.fault.TypeKind.TheVariants.{NextMissing}
 use Rattle.sot_rules.specs.Faults.{least, order_faults, when}
 use Rattle.sot_rules.specs.Scopes.{names_in}

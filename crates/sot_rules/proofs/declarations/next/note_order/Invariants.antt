@@ -1,6 +1,6 @@
 -- The loop of `note_order`: what is noted, and then what is left.
 use Rattle.std.proofs.Common.{◌≡◌, drop, map}
-use Rattle.sot_tree.specs.TreeViews.{next_view}
+use Rattle.sot_syntax_tree.specs.TreeViews.{next_view}
 use Rattle.sot_rules.specs.Faults.{least, order_faults}
 use Rattle.sot_rules.proofs.declarations.next.note_order.Given as goal
 

@@ -1,5 +1,5 @@
 -- Of `note_each_local`: that its loop keeps what it says.
-use Rattle.sot_tree.specs.TreeViews.{local_view}
+use Rattle.sot_syntax_tree.specs.TreeViews.{local_view}
 use Rattle.sot_rules.specs.Faults.{together, local_lists}
 use Rattle.sot_rules.proofs.Loops.{step_viewed}
 use Rattle.sot_rules.proofs.declarations.node.note_each_local.Goals as goal

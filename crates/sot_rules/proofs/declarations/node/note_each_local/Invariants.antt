@@ -1,8 +1,8 @@
 -- The loop of `note_each_local`: what is noted, and then what is left.
 use Rattle.std.proofs.Common.{◌≡◌, ◌++◌, map, drop}
 use Rattle.std.specs.Prelude.{flat_map}
-use Rattle.sot_tree.specs.Trees.{Node}
-use Rattle.sot_tree.specs.TreeViews.{local_view}
+use Rattle.sot_syntax_tree.specs.Trees.{Node}
+use Rattle.sot_syntax_tree.specs.TreeViews.{local_view}
 use Rattle.sot_rules.specs.Faults.{least, together, local_lists}
 use Rattle.sot_names.specs.SeenNames.{HasNames}
 use Rattle.sot_rules.proofs.declarations.node.note_each_local.Given as goal

@@ -1,7 +1,7 @@
 -- Of `note_front`: its promise, where the rest stands behind the first fault.
 use Rattle.std.proofs.Common.{◌∙◌, ◌++◌, ap₂, sym}
 use Rattle.std.proofs.lemmas.List.{take-append-drop}
-use Rattle.sot_tree.specs.TreeViews.{node_view}
+use Rattle.sot_syntax_tree.specs.TreeViews.{node_view}
 use Rattle.sot_rules.specs.Indexes.{program_in}
 use Rattle.sot_rules.proofs.Fronts.{front_noted}
 use Rattle.sot_rules.proofs.declarations.node.note_front.Goals as goal

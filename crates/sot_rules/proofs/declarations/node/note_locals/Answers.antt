@@ -1,8 +1,8 @@
 -- Of `note_locals`: its promises.
 use Rattle.std.proofs.Common.{◌∙◌, [], ◌++◌, map, ap, List}
 use Rattle.std.specs.Prelude.{flat_map}
-use Rattle.sot_tree.specs.declared.tree.LocalDecl.{LocalDecl}
-use Rattle.sot_tree.specs.TreeViews.{local_view, node_view}
+use Rattle.sot_syntax_tree.specs.declared.tree.LocalDecl.{LocalDecl}
+use Rattle.sot_syntax_tree.specs.TreeViews.{local_view, node_view}
 use Rattle.sot_rules.specs.Lists.{places}
 use Rattle.sot_rules.specs.Tests.{local_names}
 use Rattle.sot_rules.specs.Faults.{least, together, repeats, past, local_lists}

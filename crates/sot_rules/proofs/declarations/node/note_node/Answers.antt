@@ -1,7 +1,7 @@
 -- Of `note_node`: its promises.
 use Rattle.std.proofs.Common.{[]}
 use Rattle.std.specs.Prelude.{flat_map}
-use Rattle.sot_tree.specs.TreeViews.{node_view}
+use Rattle.sot_syntax_tree.specs.TreeViews.{node_view}
 use Rattle.sot_rules.specs.Lists.{places}
 use Rattle.sot_rules.specs.Names.{meaning, node_scope}
 use Rattle.sot_rules.specs.Tests.{topic_size, read_size, local_names}

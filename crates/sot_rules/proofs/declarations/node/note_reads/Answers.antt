@@ -2,7 +2,7 @@
 use Rattle.std.proofs.Common.{◌∙◌, [], map, ap, refl}
 use Rattle.std.specs.Prelude.{flat_map}
 use Rattle.std.proofs.lemmas.List.{map-id}
-use Rattle.sot_tree.specs.declared.tree.Ident.{Ident}
+use Rattle.sot_syntax_tree.specs.declared.tree.Ident.{Ident}
 use Rattle.sot_rules.specs.Names.{meaning}
 use Rattle.sot_rules.specs.Tests.{read_size}
 use Rattle.sot_rules.specs.Faults.{least, repeats, passes, read_faults}

@@ -1,6 +1,6 @@
 -- Of `note_uses_beside`: that its set has what the node reads, and its promises.
 use Rattle.std.proofs.Common.{◌∙◌, ap}
-use Rattle.sot_tree.specs.TreeViews.{node_view}
+use Rattle.sot_syntax_tree.specs.TreeViews.{node_view}
 use Rattle.sot_rules.specs.Faults.{least}
 use Rattle.sot_rules.specs.Groups.{reads_faults, writes_faults, locals_faults}
 use Rattle.sot_rules.specs.Indexes.{program_in}

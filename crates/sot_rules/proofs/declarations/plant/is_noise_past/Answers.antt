@@ -1,6 +1,6 @@
 -- Of `is_noise_past`: its promise.
 use Rattle.std.proofs.Common.{◌≡◌, ◌∙◌, ap, subst, sym}
-use Rattle.sot_tree.specs.TreeViews.{plant_view}
+use Rattle.sot_syntax_tree.specs.TreeViews.{plant_view}
 use Rattle.sot_rules.specs.Faults.{least}
 use Rattle.sot_rules.specs.Groups.{disturbances_faults}
 use Rattle.sot_rules.specs.Behind.{noise_behind}

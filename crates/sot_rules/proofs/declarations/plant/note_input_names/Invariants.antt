@@ -1,7 +1,7 @@
 -- The loop of `note_input_names`: what is noted, and then what is left.
 use Rattle.std.proofs.Common.{◌≡◌, drop}
 use Rattle.std.specs.Prelude.{flat_map}
-use Rattle.sot_tree.specs.Trees.{Plant}
+use Rattle.sot_syntax_tree.specs.Trees.{Plant}
 use Rattle.sot_rules.specs.Tests.{state_names}
 use Rattle.sot_rules.specs.Faults.{least, input_faults}
 use Rattle.sot_rules.specs.Indexes.{program_in}

@@ -1,9 +1,9 @@
 -- Of `note_noise_beside`: its promises.
 use Rattle.std.proofs.Common.{◌∙◌, [], ◌++◌, map, ap, List}
 use Rattle.std.specs.Prelude.{flat_map}
-use Rattle.sot_tree.specs.declared.tree.Field.{Field}
-use Rattle.sot_tree.specs.declared.tree.StateDecl.{StateDecl}
-use Rattle.sot_tree.specs.TreeViews.{plant_view}
+use Rattle.sot_syntax_tree.specs.declared.tree.Field.{Field}
+use Rattle.sot_syntax_tree.specs.declared.tree.StateDecl.{StateDecl}
+use Rattle.sot_syntax_tree.specs.TreeViews.{plant_view}
 use Rattle.sot_rules.specs.Lists.{places}
 use Rattle.sot_rules.specs.Tests.{state_names, noise_names}
 use Rattle.sot_rules.specs.Faults.{least, together, repeats, past, noise_lists}

@@ -1,8 +1,8 @@
 -- Of `note_plant`: its promises.
 use Rattle.std.proofs.Common.{◌∙◌, [], ◌++◌, nat_lt, length, not, ap, map, List}
 use Rattle.std.specs.Prelude.{flat_map}
-use Rattle.sot_tree.specs.declared.tree.StateDecl.{StateDecl}
-use Rattle.sot_tree.specs.TreeViews.{plant_view}
+use Rattle.sot_syntax_tree.specs.declared.tree.StateDecl.{StateDecl}
+use Rattle.sot_syntax_tree.specs.TreeViews.{plant_view}
 use Rattle.sot_rules.specs.declared.fault.TypeKind.TheVariants.{NoModule, NextMissing}
 use Rattle.sot_rules.specs.Lists.{places}
 use Rattle.sot_rules.specs.Names.{meaning}

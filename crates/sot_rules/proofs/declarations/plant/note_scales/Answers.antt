@@ -1,5 +1,5 @@
 -- Of `note_scales`: that its loop keeps what it says.
-use Rattle.sot_tree.specs.declared.tree.StateDecl.{StateDecl}
+use Rattle.sot_syntax_tree.specs.declared.tree.StateDecl.{StateDecl}
 use Rattle.sot_rules.specs.Faults.{scale_faults}
 use Rattle.sot_rules.proofs.Loops.{step_each}
 use Rattle.sot_rules.proofs.declarations.plant.note_scales.Goals as goal

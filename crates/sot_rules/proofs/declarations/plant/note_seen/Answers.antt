@@ -1,5 +1,5 @@
 -- Of `note_seen`: its promise, where nothing is looked up.
-use Rattle.sot_tree.specs.TreeViews.{plant_view}
+use Rattle.sot_syntax_tree.specs.TreeViews.{plant_view}
 use Rattle.sot_rules.specs.Indexes.{program_in}
 use Rattle.sot_rules.proofs.Fronts.{sight_stays}
 use Rattle.sot_rules.proofs.declarations.plant.note_seen.Goals as goal

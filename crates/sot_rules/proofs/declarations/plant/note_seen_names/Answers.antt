@@ -1,5 +1,5 @@
 -- Of `note_seen_names`: that its loop keeps what it says.
-use Rattle.sot_tree.specs.TreeViews.{plant_view}
+use Rattle.sot_syntax_tree.specs.TreeViews.{plant_view}
 use Rattle.sot_rules.specs.Faults.{together, seen_lists}
 use Rattle.sot_rules.specs.Indexes.{program_in}
 use Rattle.sot_rules.proofs.Loops.{step_each}

@@ -1,7 +1,7 @@
 -- The loop of `note_seen_names`: what is noted, and then what is left.
 use Rattle.std.proofs.Common.{◌≡◌, drop}
 use Rattle.std.specs.Prelude.{flat_map}
-use Rattle.sot_tree.specs.TreeViews.{plant_view}
+use Rattle.sot_syntax_tree.specs.TreeViews.{plant_view}
 use Rattle.sot_rules.specs.Faults.{least, together, seen_lists}
 use Rattle.sot_rules.specs.Indexes.{program_in}
 use Rattle.sot_rules.proofs.declarations.plant.note_seen_names.Given as goal

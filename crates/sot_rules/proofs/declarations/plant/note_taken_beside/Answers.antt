@@ -1,7 +1,7 @@
 -- Of `note_taken_beside`: that its set has the names of the state variables, and its promises.
 use Rattle.std.proofs.Common.{◌∙◌, [], ap, sym}
-use Rattle.sot_tree.specs.declared.tree.StateDecl.{StateDecl}
-use Rattle.sot_tree.specs.TreeViews.{plant_view}
+use Rattle.sot_syntax_tree.specs.declared.tree.StateDecl.{StateDecl}
+use Rattle.sot_syntax_tree.specs.TreeViews.{plant_view}
 use Rattle.sot_rules.specs.Faults.{least}
 use Rattle.sot_rules.specs.Groups.{inputs_faults, sees_faults}
 use Rattle.sot_rules.specs.Indexes.{program_in}

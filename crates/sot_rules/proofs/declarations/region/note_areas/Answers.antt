@@ -1,8 +1,8 @@
 -- Of `note_areas`: that its loop keeps what it says.
 use Rattle.std.proofs.Common.{refl, map, List}
 use Rattle.std.specs.Prelude.{flat_map}
-use Rattle.sot_tree.specs.declared.tree.BoxDecl.{BoxDecl}
-use Rattle.sot_tree.specs.TreeViews.{area_view}
+use Rattle.sot_syntax_tree.specs.declared.tree.BoxDecl.{BoxDecl}
+use Rattle.sot_syntax_tree.specs.TreeViews.{area_view}
 use Rattle.sot_rules.specs.Scopes.{sorts_in}
 use Rattle.sot_rules.specs.Faults.{area_faults}
 use Rattle.sot_rules.proofs.Loops.{step_least}

@@ -1,7 +1,7 @@
 -- The loop of `note_areas`: what is noted, and then what is left.
 use Rattle.std.proofs.Common.{◌≡◌, map, drop}
 use Rattle.std.specs.Prelude.{flat_map}
-use Rattle.sot_tree.specs.TreeViews.{area_view}
+use Rattle.sot_syntax_tree.specs.TreeViews.{area_view}
 use Rattle.sot_rules.specs.Scopes.{sorts_in}
 use Rattle.sot_rules.specs.Faults.{least, area_faults}
 use Rattle.sot_rules.proofs.declarations.region.note_areas.Given as goal

@@ -2,7 +2,7 @@
 use Rattle.std.proofs.Common.{refl, false, map, List, get_or}
 use Rattle.std.specs.Prelude.{flat_map}
 use Rattle.std.proofs.lemmas.Option.{slice_get-get_or}
-use Rattle.sot_tree.specs.declared.tree.Bounds.{Bounds}
+use Rattle.sot_syntax_tree.specs.declared.tree.Bounds.{Bounds}
 use Rattle.sot_rules.specs.declared.expressions.sort.Sort.{Sort}
 use Rattle.sot_rules.specs.declared.expressions.sort.Sort.TheVariants.{Anything}
 use Rattle.sot_rules.specs.Faults.{bounds_faults}

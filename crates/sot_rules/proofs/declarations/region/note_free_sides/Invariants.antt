@@ -1,7 +1,7 @@
 -- The loop of `note_free_sides`: what is noted, and then what is left.
 use Rattle.std.proofs.Common.{◌≡◌, false, map, drop}
 use Rattle.std.specs.Prelude.{flat_map}
-use Rattle.sot_tree.specs.declared.tree.Bounds.{Bounds}
+use Rattle.sot_syntax_tree.specs.declared.tree.Bounds.{Bounds}
 use Rattle.sot_rules.specs.declared.expressions.sort.Sort.{Sort}
 use Rattle.sot_rules.specs.declared.expressions.sort.Sort.TheVariants.{Anything}
 use Rattle.sot_rules.specs.Faults.{least, bounds_faults}

@@ -1,7 +1,7 @@
 -- Of `note_fields`: that its loop keeps what it says.
 use Rattle.std.proofs.Common.{refl, true, map, List}
 use Rattle.std.specs.Prelude.{flat_map}
-use Rattle.sot_tree.specs.declared.tree.Field.{Field}
+use Rattle.sot_syntax_tree.specs.declared.tree.Field.{Field}
 use Rattle.sot_rules.specs.Faults.{scalar_faults}
 use Rattle.sot_rules.proofs.Loops.{step_least}
 use Rattle.sot_rules.proofs.declarations.topic.note_fields.Goals as goal

@@ -1,6 +1,6 @@
 -- Of `note_pairs`: that its loop keeps what it says, and its promises.
 use Rattle.std.proofs.Common.{arith}
-use Rattle.sot_tree.specs.TreeViews.{shape_view, init_view}
+use Rattle.sot_syntax_tree.specs.TreeViews.{shape_view, init_view}
 use Rattle.sot_rules.specs.Tests.{form_scalars, start_values}
 use Rattle.sot_rules.specs.Faults.{start_faults}
 use Rattle.sot_rules.proofs.Pairs.{step_pairs, no_pairs}

@@ -1,7 +1,7 @@
 -- The loop of `note_pairs`: what is noted, and then what is left.
 use Rattle.std.proofs.Common.{◌≡◌, drop}
 use Rattle.std.specs.Prelude.{flat_map, zip}
-use Rattle.sot_tree.specs.TreeViews.{shape_view, init_view}
+use Rattle.sot_syntax_tree.specs.TreeViews.{shape_view, init_view}
 use Rattle.sot_rules.specs.Tests.{form_scalars, start_values}
 use Rattle.sot_rules.specs.Faults.{least, start_faults}
 use Rattle.sot_rules.proofs.declarations.topic.note_pairs.Given as goal

@@ -1,9 +1,9 @@
 -- Of the cycle `tree_behind`: its promise of a call.
 use Rattle.std.proofs.Common.{◌∙◌, ap, sym}
 use Rattle.std.specs.Global.{Vec}
-use Rattle.sot_tree.specs.declared.tree.Expr.{Expr}
-use Rattle.sot_tree.specs.TreeViews.{tree_view, parts_view}
-use Rattle.sot_tree.proofs.CallRows.{call_view}
+use Rattle.sot_syntax_tree.specs.declared.tree.Expr.{Expr}
+use Rattle.sot_syntax_tree.specs.TreeViews.{tree_view, parts_view}
+use Rattle.sot_syntax_tree.proofs.CallRows.{call_view}
 use Rattle.sot_rules.specs.Behind.{is_behind, tree_behind, trees_behind}
 use Rattle.sot_rules.proofs.BodiesBehind.{true_and}
 use Rattle.sot_rules.proofs.expressions.behind.+tree_behind.Goals as goal

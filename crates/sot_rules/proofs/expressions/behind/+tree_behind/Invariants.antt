@@ -1,6 +1,6 @@
 -- The loop of the cycle `tree_behind`: what is left decides.
 use Rattle.std.proofs.Common.{◌≡◌, drop}
-use Rattle.sot_tree.specs.TreeViews.{parts_view}
+use Rattle.sot_syntax_tree.specs.TreeViews.{parts_view}
 use Rattle.sot_rules.specs.Behind.{trees_behind}
 use Rattle.sot_rules.proofs.expressions.behind.+tree_behind.Given as goal
 

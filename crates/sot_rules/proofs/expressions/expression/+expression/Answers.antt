@@ -2,12 +2,12 @@
 use Rattle.std.proofs.Common.{◌∙◌, ◌||◌, ◌++◌, Some, nat_abs, ap, ap₂, sym, refl, fold}
 use Rattle.std.specs.Global.{Vec}
 use Rattle.std.proofs.lemmas.List.{drop_all}
-use Rattle.sot_tree.specs.Trees.{binary, rest, negated, denied, rescaled, chosen}
-use Rattle.sot_tree.specs.declared.tree.Expr.{Expr}
-use Rattle.sot_tree.specs.declared.tree.Member.{Member}
-use Rattle.sot_tree.specs.declared.tree.Choice.{Choice}
-use Rattle.sot_tree.specs.declared.tree.Operands.{out-Operands}
-use Rattle.sot_tree.specs.TreeViews.{tree_view, parts_view}
+use Rattle.sot_syntax_tree.specs.Trees.{binary, rest, negated, denied, rescaled, chosen}
+use Rattle.sot_syntax_tree.specs.declared.tree.Expr.{Expr}
+use Rattle.sot_syntax_tree.specs.declared.tree.Member.{Member}
+use Rattle.sot_syntax_tree.specs.declared.tree.Choice.{Choice}
+use Rattle.sot_syntax_tree.specs.declared.tree.Operands.{out-Operands}
+use Rattle.sot_syntax_tree.specs.TreeViews.{tree_view, parts_view}
 use Rattle.sot_rules.specs.declared.expressions.sort.Sort.{Sort}
 use Rattle.sot_rules.specs.declared.expressions.sort.Sort.TheVariants.{Scaled}
 use Rattle.sot_rules.specs.declared.fault.TypeKind.TheVariants.{KindDiffers, ScaleDiffers}

@@ -1,6 +1,6 @@
 -- The loops of the cycle `expression`: what is kept and noted, and then what is left.
 use Rattle.std.proofs.Common.{◌≡◌, drop, fold}
-use Rattle.sot_tree.specs.TreeViews.{parts_view}
+use Rattle.sot_syntax_tree.specs.TreeViews.{parts_view}
 use Rattle.sot_rules.specs.TreeSorts.{sorts}
 use Rattle.sot_rules.specs.Faults.{least, parts_faults}
 use Rattle.sot_rules.specs.Scopes.{names_in}

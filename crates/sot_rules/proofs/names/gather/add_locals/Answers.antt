@@ -1,7 +1,7 @@
 -- Of `add_locals`: that its loop keeps what it says, and its promises.
 use Rattle.std.proofs.Common.{ap, ◌++◌}
-use Rattle.sot_tree.specs.declared.tree.LocalDecl.{LocalDecl}
-use Rattle.sot_tree.specs.TreeViews.{local_view}
+use Rattle.sot_syntax_tree.specs.declared.tree.LocalDecl.{LocalDecl}
+use Rattle.sot_syntax_tree.specs.TreeViews.{local_view}
 use Rattle.sot_rules.specs.Names.{alone, local_thing}
 use Rattle.sot_rules.proofs.StandsFor.{alone_more, map_twice, mapped_all, stands_same}
 use Rattle.sot_rules.proofs.names.gather.add_locals.Goals as goal

@@ -1,6 +1,6 @@
 -- The loop of `add_locals`: the locals so far are in the table.
 use Rattle.std.proofs.Common.{List, ◌++◌, map, take}
-use Rattle.sot_tree.specs.TreeViews.{local_view}
+use Rattle.sot_syntax_tree.specs.TreeViews.{local_view}
 use Rattle.sot_rules.specs.Names.{Part, Thing, local_thing}
 use Rattle.sot_rules.specs.Alike.{StandsFor}
 use Rattle.sot_rules.proofs.names.gather.add_locals.Given as goal

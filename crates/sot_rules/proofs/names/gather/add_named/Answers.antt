@@ -1,7 +1,7 @@
 -- Of `add_named`: that its loop keeps what it says.
 use Rattle.std.proofs.Common.{◌++◌, Option, take}
 use Rattle.std.specs.List.{filter_map}
-use Rattle.sot_tree.specs.declared.tree.Ident.{Ident}
+use Rattle.sot_syntax_tree.specs.declared.tree.Ident.{Ident}
 use Rattle.sot_rules.specs.Names.{Thing, meaning}
 use Rattle.sot_rules.specs.Indexes.{program_in}
 use Rattle.sot_rules.specs.Alike.{tables_in}

@@ -3,7 +3,7 @@ use Rattle.std.proofs.Common.{◌≡◌, ◌∙◌, Some, ap, map, refl, sym}
 use Rattle.std.specs.Option.{option_map}
 use Rattle.std.specs.List.{slice_get}
 use Rattle.std.proofs.lemmas.Option.{slice_get-map, slice_get_read}
-use Rattle.sot_tree.specs.TreeViews.{declaration_view}
+use Rattle.sot_syntax_tree.specs.TreeViews.{declaration_view}
 use Rattle.sot_rules.specs.Alike.{kept_of_list, tables_in}
 use Rattle.sot_names.proofs.NameTables.{same_by}
 use Rattle.sot_rules.proofs.StandsFor.{found_named, parts_at, kept_alike}

@@ -1,7 +1,7 @@
 -- Of `note_owned`: its promises.
 use Rattle.std.proofs.Common.{◌∙◌, ◌||◌, ap, sym}
 use Rattle.std.specs.Str.{bytes_eq}
-use Rattle.sot_tree.specs.TreeViews.{declaration_view}
+use Rattle.sot_syntax_tree.specs.TreeViews.{declaration_view}
 use Rattle.sot_rules.specs.Tests.{is_plant_of}
 use Rattle.sot_rules.specs.Indexes.{is_key}
 use Rattle.sot_rules.proofs.NameTables.{keys_more}

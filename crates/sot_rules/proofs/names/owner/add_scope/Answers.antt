@@ -1,7 +1,7 @@
 -- Of `add_scope`: its promises.
 use Rattle.std.proofs.Common.{◌++◌, ap, ap₂, map}
 use Rattle.std.specs.List.{filter_map}
-use Rattle.sot_tree.specs.TreeViews.{local_view}
+use Rattle.sot_syntax_tree.specs.TreeViews.{local_view}
 use Rattle.sot_rules.specs.Names.{either_meant, local_thing, meaning, topic_meant}
 use Rattle.sot_rules.specs.Indexes.{program_in}
 use Rattle.sot_rules.specs.Alike.{tables_in}

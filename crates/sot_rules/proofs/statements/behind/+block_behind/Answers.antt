@@ -1,8 +1,8 @@
 -- Of the cycle `block_behind`: its promises of an `if` and of a loop.
 use Rattle.std.proofs.Common.{◌∙◌, ◌&&◌, ap, sym}
-use Rattle.sot_tree.specs.declared.tree.Branch.{Branch}
-use Rattle.sot_tree.specs.TreeViews.{tree_view, statement_view, block_view}
-use Rattle.sot_tree.proofs.BlockRows.{branch_view, repeat_view}
+use Rattle.sot_syntax_tree.specs.declared.tree.Branch.{Branch}
+use Rattle.sot_syntax_tree.specs.TreeViews.{tree_view, statement_view, block_view}
+use Rattle.sot_syntax_tree.proofs.BlockRows.{branch_view, repeat_view}
 use Rattle.sot_rules.specs.Behind.{is_behind, tree_behind, statement_behind, block_behind}
 use Rattle.sot_rules.proofs.BodiesBehind.{true_and, false_and}
 use Rattle.sot_rules.proofs.statements.behind.+block_behind.Goals as goal

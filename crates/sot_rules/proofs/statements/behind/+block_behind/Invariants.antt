@@ -1,6 +1,6 @@
 -- The loop of the cycle `block_behind`: what is left decides.
 use Rattle.std.proofs.Common.{◌≡◌, drop}
-use Rattle.sot_tree.specs.TreeViews.{block_view}
+use Rattle.sot_syntax_tree.specs.TreeViews.{block_view}
 use Rattle.sot_rules.specs.Behind.{block_behind}
 use Rattle.sot_rules.proofs.statements.behind.+block_behind.Given as goal
 

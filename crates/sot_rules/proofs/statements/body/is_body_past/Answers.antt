@@ -1,6 +1,6 @@
 -- Of `is_body_past`: its promise.
 use Rattle.std.proofs.Common.{◌≡◌, ◌∙◌, Some, subst, sym}
-use Rattle.sot_tree.specs.TreeViews.{block_view}
+use Rattle.sot_syntax_tree.specs.TreeViews.{block_view}
 use Rattle.sot_rules.specs.Faults.{least, body_faults}
 use Rattle.sot_rules.proofs.BodiesBehind.{body_stays}
 use Rattle.sot_rules.proofs.statements.body.is_body_past.Goals as goal

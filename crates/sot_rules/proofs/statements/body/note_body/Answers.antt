@@ -1,7 +1,7 @@
 -- Of `note_body`: its promises.
 use Rattle.std.proofs.Common.{◌∙◌, None, Option, Some, ap, sym}
-use Rattle.sot_tree.specs.Trees.{Block}
-use Rattle.sot_tree.specs.TreeViews.{block_view, node_view}
+use Rattle.sot_syntax_tree.specs.Trees.{Block}
+use Rattle.sot_syntax_tree.specs.TreeViews.{block_view, node_view}
 use Rattle.sot_rules.specs.Names.{node_scope}
 use Rattle.sot_rules.specs.Faults.{body_faults, least}
 use Rattle.sot_rules.specs.Scopes.{scope_in}

@@ -1,8 +1,8 @@
 -- Of the cycle `statement`: that the loops keep what they say, and their promises.
 use Rattle.std.proofs.Common.{◌∙◌, None, Some, ap, ap₂, sym, refl}
-use Rattle.sot_tree.specs.declared.tree.Member.{Member}
-use Rattle.sot_tree.specs.declared.tree.Branch.{Branch}
-use Rattle.sot_tree.specs.TreeViews.{tree_view, statement_view, block_view}
+use Rattle.sot_syntax_tree.specs.declared.tree.Member.{Member}
+use Rattle.sot_syntax_tree.specs.declared.tree.Branch.{Branch}
+use Rattle.sot_syntax_tree.specs.TreeViews.{tree_view, statement_view, block_view}
 use Rattle.sot_rules.specs.Sorts.{is_scaled}
 use Rattle.sot_rules.specs.Names.{reading}
 use Rattle.sot_rules.specs.TreeSorts.{sort}

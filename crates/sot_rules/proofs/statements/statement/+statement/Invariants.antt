@@ -1,6 +1,6 @@
 -- The loops of the cycle `statement`: what is noted, and then what is left.
 use Rattle.std.proofs.Common.{◌≡◌, drop}
-use Rattle.sot_tree.specs.TreeViews.{block_view}
+use Rattle.sot_syntax_tree.specs.TreeViews.{block_view}
 use Rattle.sot_rules.specs.Faults.{least, block_faults}
 use Rattle.sot_rules.specs.Scopes.{scope_in}
 use Rattle.sot_rules.proofs.statements.statement.+statement.Given as goal

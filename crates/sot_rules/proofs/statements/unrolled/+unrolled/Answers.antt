@@ -1,7 +1,7 @@
 -- Of the cycle `unrolled`: that the loops keep what they say, and their promises.
 use Rattle.std.proofs.Common.{◌≡◌, ◌+◌, ◌-◌, ◌%◌, arith, subst, sym, ap, ◌∙◌}
-use Rattle.sot_tree.specs.declared.tree.Branch.{Branch}
-use Rattle.sot_tree.specs.TreeViews.{statement_view, block_view}
+use Rattle.sot_syntax_tree.specs.declared.tree.Branch.{Branch}
+use Rattle.sot_syntax_tree.specs.TreeViews.{statement_view, block_view}
 use Rattle.sot_rules.specs.declared.statements.unrolled.Reached.TheVariants.{At, Left}
 use Rattle.sot_rules.specs.Tests.{unrolled, block_unrolled}
 use Rattle.sot_rules.specs.Reached.{IsReached}

@@ -1,6 +1,6 @@
 -- The loops of the cycle `unrolled`: what is reached in the statements that are left is reached in all.
 use Rattle.std.proofs.Common.{drop}
-use Rattle.sot_tree.specs.TreeViews.{block_view}
+use Rattle.sot_syntax_tree.specs.TreeViews.{block_view}
 use Rattle.sot_rules.specs.declared.statements.unrolled.Reached.{Reached}
 use Rattle.sot_rules.specs.Tests.{block_unrolled}
 use Rattle.sot_rules.specs.Reached.{IsReached}

@@ -1,8 +1,8 @@
 -- Of the cycle `act`: what their calls ask for, that the loops keep what they say, and their promises.
 use Rattle.std.proofs.Common.{rules, arith, ap, ◌∙◌}
-use Rattle.sot_tree.specs.declared.tree.Stmt.{the_lemmas}
-use Rattle.sot_tree.specs.declared.tree.Branch.{Branch}
-use Rattle.sot_tree.specs.TreeViews.{tree_view}
+use Rattle.sot_syntax_tree.specs.declared.tree.Stmt.{the_lemmas}
+use Rattle.sot_syntax_tree.specs.declared.tree.Branch.{Branch}
+use Rattle.sot_syntax_tree.specs.TreeViews.{tree_view}
 use Rattle.sot_rules.specs.Faults.{tree_faults}
 use Rattle.sot_typing.specs.Formulas.{formula_view}
 use Rattle.sot_typing.specs.Terms.{formula_of}

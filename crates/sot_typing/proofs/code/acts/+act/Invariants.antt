@@ -1,6 +1,6 @@
 -- The loops of the cycle `act`: what is made, and then what is left.
 use Rattle.std.proofs.Common.{◌≡◌, [], drop}
-use Rattle.sot_tree.specs.TreeViews.{block_view}
+use Rattle.sot_syntax_tree.specs.TreeViews.{block_view}
 use Rattle.sot_rules.specs.Faults.{block_faults}
 use Rattle.sot_typing.specs.Terms.{deeds_of}
 use Rattle.sot_typing.specs.Bodies.{scope_in}

@@ -1,7 +1,7 @@
 -- Of `put_next`: what its calls ask for, and its promises.
 use Rattle.std.proofs.Common.{◌≡◌, ◌++◌, List, OnOk, ap, ◌∙◌, map, subst}
-use Rattle.sot_tree.specs.declared.tree.NextDecl.{NextDecl}
-use Rattle.sot_tree.specs.TreeViews.{tree_view, plant_view}
+use Rattle.sot_syntax_tree.specs.declared.tree.NextDecl.{NextDecl}
+use Rattle.sot_syntax_tree.specs.TreeViews.{tree_view, plant_view}
 use Rattle.sot_rules.specs.Indexes.{program_in}
 use Rattle.sot_typing.specs.Formulas.{Formula, formula_view}
 use Rattle.sot_typing.specs.Terms.{formula_of}

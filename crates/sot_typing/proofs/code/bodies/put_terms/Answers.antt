@@ -1,8 +1,8 @@
 -- Of `put_terms`: that its loop keeps what it says, and its promises.
 use Rattle.std.proofs.Common.{[], ◌∷◌, ◌++◌, map, refl, ap, ◌∙◌}
 use Rattle.std.proofs.lemmas.List.{map-append}
-use Rattle.sot_tree.specs.declared.tree.NextDecl.{NextDecl}
-use Rattle.sot_tree.specs.TreeViews.{tree_view}
+use Rattle.sot_syntax_tree.specs.declared.tree.NextDecl.{NextDecl}
+use Rattle.sot_syntax_tree.specs.TreeViews.{tree_view}
 use Rattle.sot_typing.specs.Formulas.{formula_view}
 use Rattle.sot_typing.specs.Terms.{formula_of}
 use Rattle.sot_typing.specs.Things.{things_in}

@@ -1,7 +1,7 @@
 -- The loop of `put_terms`: what stands, and then what is left.
 use Rattle.std.proofs.Common.{◌≡◌, ◌++◌, drop, map}
-use Rattle.sot_tree.specs.declared.tree.NextDecl.{NextDecl}
-use Rattle.sot_tree.specs.TreeViews.{tree_view}
+use Rattle.sot_syntax_tree.specs.declared.tree.NextDecl.{NextDecl}
+use Rattle.sot_syntax_tree.specs.TreeViews.{tree_view}
 use Rattle.sot_typing.specs.Formulas.{formula_view}
 use Rattle.sot_typing.specs.Terms.{formula_of}
 use Rattle.sot_typing.specs.Things.{things_in}

@@ -1,12 +1,12 @@
 -- Of the cycle `term`: what their calls ask for, that the loops keep what they say, and their promises.
 use Rattle.std.proofs.Common.{rules, arith, ◌≡◌, ◌≤◌, [], ◌∷◌, ◌++◌, ap, ap₂, sym, subst, ◌∙◌}
 use Rattle.std.specs.Global.{Vec}
-use Rattle.sot_tree.specs.declared.tree.Expr.{Expr, the_lemmas}
-use Rattle.sot_tree.specs.declared.tree.Choice.{Choice}
-use Rattle.sot_tree.specs.Trees.{binary, negated, denied, rescaled, chosen, called}
-use Rattle.sot_tree.specs.declared.tree.Operands.{out-Operands}
-use Rattle.sot_tree.specs.TreeViews.{tree_view, parts_view}
-use Rattle.sot_tree.proofs.CallRows.{call_view}
+use Rattle.sot_syntax_tree.specs.declared.tree.Expr.{Expr, the_lemmas}
+use Rattle.sot_syntax_tree.specs.declared.tree.Choice.{Choice}
+use Rattle.sot_syntax_tree.specs.Trees.{binary, negated, denied, rescaled, chosen, called}
+use Rattle.sot_syntax_tree.specs.declared.tree.Operands.{out-Operands}
+use Rattle.sot_syntax_tree.specs.TreeViews.{tree_view, parts_view}
+use Rattle.sot_syntax_tree.proofs.CallRows.{call_view}
 use Rattle.sot_rules.specs.TreeSorts.{is_no_scale}
 use Rattle.sot_rules.specs.Faults.{tree_faults}
 use Rattle.sot_typing.specs.Terms.{sort_scale}

@@ -1,6 +1,6 @@
 -- Of `add_locals`: that its loop keeps what it says, and its promises.
 use Rattle.std.proofs.Common.{[], ◌∷◌, map, refl, ap, ◌∙◌, ◌++◌}
-use Rattle.sot_tree.specs.TreeViews.{local_view}
+use Rattle.sot_syntax_tree.specs.TreeViews.{local_view}
 use Rattle.sot_rules.specs.Names.{local_thing}
 use Rattle.sot_typing.specs.Things.{things_in}
 use Rattle.sot_typing.proofs.Listings.{add_next, add_done}

@@ -1,7 +1,7 @@
 -- Of `add_named`: that its loop keeps what it says, and its promises.
 use Rattle.std.proofs.Common.{ap, ◌∙◌, ◌++◌, filter_map, refl}
 use Rattle.std.specs.Option.{option_to_list}
-use Rattle.sot_tree.specs.declared.tree.Ident.{Ident}
+use Rattle.sot_syntax_tree.specs.declared.tree.Ident.{Ident}
 use Rattle.sot_rules.specs.Names.{meaning}
 use Rattle.sot_rules.specs.Indexes.{program_in}
 use Rattle.sot_typing.specs.Things.{things_in}

@@ -1,9 +1,9 @@
 -- Of `look_up`: that it never fails, and its promises.
 use Rattle.std.proofs.Common.{◌∙◌, ◌<◌, ap, length, map, arith}
 use Rattle.std.proofs.lemmas.List.{length-map, get_or_default}
-use Rattle.sot_tree.specs.TreeViews.{declaration_view}
+use Rattle.sot_syntax_tree.specs.TreeViews.{declaration_view}
 use Rattle.sot_typing.specs.Numbers.{nothing_counted}
-use Rattle.sot_typing.proofs.Found.{numbers_length, decl_at, is_meant}
+use Rattle.sot_typing.proofs.FoundThing.{numbers_length, decl_at, is_meant}
 use Rattle.sot_typing.proofs.names.lookup.look_up.Goals as goal
 
 pub bounds-numbers-place : goal.bounds-numbers-place

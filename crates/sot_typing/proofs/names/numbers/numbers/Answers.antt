@@ -1,7 +1,7 @@
 -- Of `numbers`: what its calls ask for, that its loop keeps what it says, and its promises.
 use Rattle.std.proofs.Common.{subst, sym, ap, map, drop, ◌∙◌, ◌+◌, ◌++◌}
 use Rattle.std.proofs.lemmas.List.{drop_all, append-nil}
-use Rattle.sot_tree.specs.TreeViews.{declaration_view}
+use Rattle.sot_syntax_tree.specs.TreeViews.{declaration_view}
 use Rattle.sot_typing.specs.Numbers.{FitLimits, numbers_from}
 use Rattle.sot_typing.proofs.Counting.{room, few_left, left_are, step_numbers}
 use Rattle.sot_typing.proofs.names.numbers.numbers.Goals as goal

@@ -1,7 +1,7 @@
 -- The loop of `put_declarations`: what stands in each list, and then the tables of the declarations that are left.
 use Rattle.std.proofs.Common.{◌≡◌, ◌++◌, map, drop}
 use Rattle.std.specs.Prelude.{flat_map, filter_map}
-use Rattle.sot_tree.specs.TreeViews.{declaration_view}
+use Rattle.sot_syntax_tree.specs.TreeViews.{declaration_view}
 use Rattle.sot_rules.specs.Indexes.{program_in}
 use Rattle.sot_typing.specs.Resolved.{a_topic_of, a_plant_of, a_node_of, a_module_of, topic_info, topic_scalars, plant_seen, plant_table, node_seen, node_table}
 use Rattle.sot_typing.specs.Resolved.{module_info}

@@ -1,6 +1,6 @@
 -- Of `put_locals`: what its calls ask for, that its loop keeps what it says, and its promises.
 use Rattle.std.proofs.Common.{◌∙◌, ◌∷◌, [], ◌++◌, map, refl, sym, ap, subst}
-use Rattle.sot_tree.specs.TreeViews.{local_view}
+use Rattle.sot_syntax_tree.specs.TreeViews.{local_view}
 use Rattle.sot_typing.specs.Resolved.{local_info}
 use Rattle.sot_typing.specs.Parts.{LocalFits}
 use Rattle.sot_typing.proofs.Listings.{add_next, add_done}

@@ -1,6 +1,6 @@
 -- The loop of `region`: the boxes so far, each of the region's width.
 use Rattle.std.proofs.Common.{◌≡◌, map, take}
-use Rattle.sot_tree.specs.TreeViews.{area_view}
+use Rattle.sot_syntax_tree.specs.TreeViews.{area_view}
 use Rattle.sot_typing.specs.Resolved.{side_of}
 use Rattle.sot_typing.proofs.tables.region.region.Given as goal
 

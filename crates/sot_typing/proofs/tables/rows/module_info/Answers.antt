@@ -1,8 +1,8 @@
 -- Of `module_info`: what its calls ask for.
 use Rattle.std.proofs.Common.{ℕ, List, sym, subst}
 use Rattle.std.specs.List.{All}
-use Rattle.sot_tree.specs.declared.tree.BoxDecl.{BoxDecl}
-use Rattle.sot_tree.specs.TreeViews.{area_view}
+use Rattle.sot_syntax_tree.specs.declared.tree.BoxDecl.{BoxDecl}
+use Rattle.sot_syntax_tree.specs.TreeViews.{area_view}
 use Rattle.sot_typing.specs.Parts.{AreaFits}
 use Rattle.sot_typing.proofs.Gathered.{all_mapped}
 use Rattle.sot_typing.proofs.tables.rows.module_info.Goals as goal

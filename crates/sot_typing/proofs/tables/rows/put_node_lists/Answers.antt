@@ -2,8 +2,8 @@
 use Rattle.std.proofs.Common.{List, map, ap, ◌++◌, ◌∙◌, sym, subst}
 use Rattle.std.specs.List.{All}
 use Rattle.std.specs.Prelude.{flat_map}
-use Rattle.sot_tree.specs.declared.tree.LocalDecl.{LocalDecl}
-use Rattle.sot_tree.specs.TreeViews.{local_view, node_view}
+use Rattle.sot_syntax_tree.specs.declared.tree.LocalDecl.{LocalDecl}
+use Rattle.sot_syntax_tree.specs.TreeViews.{local_view, node_view}
 use Rattle.sot_rules.specs.Indexes.{program_in}
 use Rattle.sot_typing.specs.Parts.{LocalFits}
 use Rattle.sot_typing.specs.Resolved.{slots_meant, scalars_meant, local_info}

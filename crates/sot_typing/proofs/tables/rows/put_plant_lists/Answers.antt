@@ -1,7 +1,7 @@
 -- Of `put_plant_lists`: its promises.
 use Rattle.std.proofs.Common.{map, ap, ◌++◌, ◌∙◌}
 use Rattle.std.specs.Prelude.{flat_map}
-use Rattle.sot_tree.specs.TreeViews.{plant_view}
+use Rattle.sot_syntax_tree.specs.TreeViews.{plant_view}
 use Rattle.sot_rules.specs.Indexes.{program_in}
 use Rattle.sot_typing.specs.Resolved.{state_info, scalars_meant, plant_place, noise_info}
 use Rattle.sot_typing.proofs.Filled.{plant_filled}

@@ -1,5 +1,5 @@
 -- Of `put_fields`: that its loop keeps what it says.
-use Rattle.sot_tree.specs.TreeViews.{init_view}
+use Rattle.sot_syntax_tree.specs.TreeViews.{init_view}
 use Rattle.sot_rules.specs.Tests.{start_values}
 use Rattle.sot_typing.proofs.Scalars.{step_fields}
 use Rattle.sot_typing.proofs.tables.topic.put_fields.Goals as goal

@@ -1,6 +1,6 @@
 -- The loop of `put_fields`: what stands, and then the scalars of the fields that are left.
 use Rattle.std.proofs.Common.{◌≡◌, ◌++◌, drop}
-use Rattle.sot_tree.specs.TreeViews.{init_view}
+use Rattle.sot_syntax_tree.specs.TreeViews.{init_view}
 use Rattle.sot_rules.specs.Tests.{start_values}
 use Rattle.sot_typing.specs.Parts.{field_scalars}
 use Rattle.sot_typing.proofs.tables.topic.put_fields.Given as goal

@@ -1,7 +1,7 @@
 -- Of `put_scalars`: its promises.
 use Rattle.std.proofs.Common.{◌≡◌, ◌∙◌, ◌++◌, OnOk, ap, subst, List}
 use Rattle.sot_lang.specs.declared.tables.ScalarInfo.{ScalarInfo}
-use Rattle.sot_tree.specs.TreeViews.{shape_view, topic_view}
+use Rattle.sot_syntax_tree.specs.TreeViews.{shape_view, topic_view}
 use Rattle.sot_rules.specs.Tests.{start_values}
 use Rattle.sot_typing.specs.Parts.{field_scalars}
 use Rattle.sot_typing.proofs.Scalars.{record_scalars}

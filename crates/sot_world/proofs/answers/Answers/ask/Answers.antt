@@ -1,5 +1,5 @@
 use Rattle.std.proofs.Common.{refl}
-use Rattle.sot_world.specs.declared.answers.Answer.TheVariants.{Given}
+use Rattle.sot_world.specs.declared.answers.KeepsAnswer.TheVariants.{Given}
 use Rattle.sot_world.proofs.GivenAnswers.{stay_right, said_of}
 use Rattle.sot_world.proofs.answers.Answers.ask.Goals as goal
 

@@ -2,7 +2,7 @@
 use Rattle.std.proofs.Common.{◌∙◌, map, sym}
 use Rattle.std.proofs.lemmas.Bool.{eqb-true}
 use Rattle.std.proofs.lemmas.List.{length-map}
-use Rattle.sot_tree.specs.TreeViews.{declaration_view}
+use Rattle.sot_syntax_tree.specs.TreeViews.{declaration_view}
 use Rattle.sot_rules.proofs.Distinct.{names_distinct, none_repeat}
 use Rattle.sot_rules.proofs.names.index.Index.is_distinct.Goals as goal
 

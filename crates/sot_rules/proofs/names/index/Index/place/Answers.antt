@@ -1,6 +1,6 @@
 -- Of `place`: its promises.
 use Rattle.std.proofs.Common.{◌∙◌, ap, is_some, map}
-use Rattle.sot_tree.specs.TreeViews.{declaration_view}
+use Rattle.sot_syntax_tree.specs.TreeViews.{declaration_view}
 use Rattle.std.specs.Map.{lookup}
 use Rattle.std.specs.Str.{bytes_eq}
 use Rattle.sot_rules.specs.Indexes.{is_named}

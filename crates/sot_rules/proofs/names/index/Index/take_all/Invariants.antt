@@ -1,6 +1,6 @@
 -- The loop of `take_all`: the tables hold the declarations so far.
 use Rattle.std.proofs.Common.{◌≡◌, map, take}
-use Rattle.sot_tree.specs.TreeViews.{declaration_view}
+use Rattle.sot_syntax_tree.specs.TreeViews.{declaration_view}
 use Rattle.sot_rules.specs.Indexes.{Indexes}
 use Rattle.sot_rules.proofs.names.index.Index.take_all.Given as goal
 

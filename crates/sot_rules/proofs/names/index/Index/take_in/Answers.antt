@@ -1,7 +1,7 @@
 -- Of `take_in`: its promises.
 use Rattle.std.proofs.Common.{◌∙◌, [], ap, length}
-use Rattle.sot_tree.specs.declared.tree.Ident.{Ident}
-use Rattle.sot_tree.specs.TreeViews.{declaration_view}
+use Rattle.sot_syntax_tree.specs.declared.tree.Ident.{Ident}
+use Rattle.sot_syntax_tree.specs.TreeViews.{declaration_view}
 use Rattle.sot_rules.proofs.Indexes.{counted, places_more, owned_more, parts_more}
 use Rattle.sot_rules.proofs.names.index.Index.take_in.Goals as goal
 

@@ -1,4 +1,0 @@
--- what the words ask for
-pub mod Words
--- which missions are joined
-pub mod Halves

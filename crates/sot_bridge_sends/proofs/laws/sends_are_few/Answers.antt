@@ -1,5 +1,0 @@
-use Rattle.sot_bridge_sends.proofs.Few.{sends_few}
-use Rattle.sot_bridge_sends.proofs.laws.sends_are_few.Goals as goal
-
-pub returns : goal.returns
-returns c = sends_few

@@ -1,5 +1,0 @@
-use Rattle.sot_bridge_sends.proofs.Ranges.{sends_in_range}
-use Rattle.sot_bridge_sends.proofs.laws.sends_are_in_range.Goals as goal
-
-pub returns : goal.returns
-returns c = sends_in_range

@@ -1,4 +1,0 @@
--- which topics are joined
-pub mod Topics
--- how often something may come over
-pub mod Sends

@@ -1,5 +1,0 @@
-use Rattle.sot_closed_atoms.proofs.Extents.{extent}
-use Rattle.sot_closed_atoms.proofs.inside.+put_covered.Given as goal
-
-abbrev pub decreases-put_covered : goal.decreases-put_covered
-decreases-put_covered l = extent l.block.now

@@ -1,5 +1,0 @@
-use Rattle.sot_closed_atoms.proofs.Followed.{FollowedTo}
-use Rattle.sot_closed_atoms.proofs.tube.follow.Given as goal
-
-abbrev pub invariant-loop-tick : goal.invariant-loop-tick
-invariant-loop-tick l = FollowedTo l.grid l.set l.initial.walk l.walk l._tick l.found

@@ -1,0 +1,50 @@
+use Rattle.std.proofs.Common.{◌≡◌, ◌∙◌, ◌∷◌, ◌++◌, [], Some, sym, ap, ap₂, subst}
+use Rattle.sot_turn.specs.Prefixes.{IsPrefix, behind}
+use Rattle.sot_turn.specs.Passes.{pass_seen, pass_ground, pass_added}
+use Rattle.sot_board.specs.Versions.{drafts_of}
+use Rattle.sot_fly_worker.specs.Holds.{HasFired}
+use Rattle.sot_fly_worker.proofs.Firing.{has_fired, noted, node_there}
+use Rattle.sot_fly_worker.proofs.hold.fire_stated.Goals as goal
+
+pub commit_stated-receipt-requires-clause-there : goal.commit_stated-receipt-requires-clause-there
+commit_stated-receipt-requires-clause-there g c =
+    let b = c.lend.result.now in
+    node_there (pass_ground c.args.pass) c.args.node b c.requires.there
+    (c.take_next-held.ensures.ground_now ∙ ap (λ x. Some (x.accepted, x.plan)) (sym c.lend.ensures.value))
+
+pub commit_stated-receipt-requires-clause-external : goal.commit_stated-receipt-requires-clause-external
+commit_stated-receipt-requires-clause-external g c =
+    let b = c.lend.result.now in
+    c.requires.external b.accepted b.plan (c.take_next-held.ensures.ground_now ∙ ap (λ x. Some (x.accepted, x.plan)) (sym c.lend.ensures.value))
+
+pub commit_stated-receipt-requires-clause-no_guest : goal.commit_stated-receipt-requires-clause-no_guest
+commit_stated-receipt-requires-clause-no_guest g c =
+    let b = c.lend.result.now in
+    c.requires.no_guest b.accepted b.plan (c.take_next-held.ensures.ground_now ∙ ap (λ x. Some (x.accepted, x.plan)) (sym c.lend.ensures.value))
+
+pub returns-clause-fired : goal.returns-clause-fired
+returns-clause-fired g c =
+    let n = c.args.node in
+    let b = c.lend.result.now in
+    let known = pass_seen c.args.pass in
+    let value = c.lend.ensures.value in
+    let draft = c.commit_stated-receipt.result.0.draft in
+    let on : IsPrefix known b.entries = subst (λ x. IsPrefix known x.entries) (sym value) c.take_next-held.ensures.goes_on in
+    let step : drafts_of n b.entries ≡ drafts_of n known = ap (λ x. drafts_of n x.entries) value ∙ c.take_next-held.ensures.in_step ∙ c.requires.drafts in
+    let gave : pass_added c.give-pass.result ≡ pass_added c.args.pass ++ behind b.entries c.commit_stated-receipt.new.board.entries =
+    c.give-pass.ensures.added ∙ ap₂ (λ l es. l ++ behind es c.commit_stated-receipt.new.board.entries) c.take_next-held.ensures.added
+    (c.take_next-held.ensures.seen ∙ ap (λ x. x.entries) (sym value)) in (
+      draft,
+      subst (λ es. HasFired n draft known es (pass_added c.args.pass) (pass_added c.give-pass.result)) (sym c.give-pass.ensures.seen)
+          (has_fired known b c.commit_stated-receipt.new.board n draft (pass_added c.args.pass) (pass_added c.give-pass.result) on step
+          c.commit_stated-receipt.ensures gave),
+    )
+
+pub returns-clause-drafts : goal.returns-clause-drafts
+returns-clause-drafts g c =
+    let n = c.args.node in
+    let b = c.lend.result.now in
+    let draft = c.commit_stated-receipt.result.0.draft in
+    let was = ap (λ x. drafts_of n x.entries) c.lend.ensures.value ∙ c.take_next-held.ensures.in_step in
+    let now = noted b c.commit_stated-receipt.new.board n draft c.commit_stated-receipt.ensures in
+    c.append.ensures ∙ ap (λ l. l ++ draft ∷ []) (sym was) ∙ sym now ∙ ap (drafts_of n) (sym c.give-pass.ensures.seen)

@@ -1,0 +1,5 @@
+-- what the public contracts say
+pub mod Fronts
+pub mod Reading
+-- between the crate's own functions
+pub mod Waiting

@@ -1,0 +1,11 @@
+use Rattle.std.proofs.Common.{refl}
+use Rattle.sot_guard_lines.proofs.facts.lines_are_as_stated.Goals as goal
+
+pub returns-clause-hold : goal.returns-clause-hold
+returns-clause-hold c g = (refl, refl, refl)
+
+pub returns-clause-outside : goal.returns-clause-outside
+returns-clause-outside c g = (refl, refl)
+
+pub returns-clause-others : goal.returns-clause-others
+returns-clause-others c = (refl, refl, refl)

@@ -1,0 +1,25 @@
+-- Worked lines of the running example, written out by hand.
+use Rattle.std.specs.Prelude.{◌≡◌, pos, negsuc, [], ◌∷◌, codes}
+use Rattle.std.specs.Global.{Global}
+use Rattle.sot_lang.specs.Line.{line}
+use Rattle.sot_guard_lines.specs.Lines.{hold_line, ready_line, outside_line, end_line}
+
+-- its one plant takes its one command
+abbrev pub HeldByACommand : Global → Type 0
+HeldByACommand g =
+    (hold_line (line g) 0 0 (pos 2 ∷ []) ≡ codes "0 hold pos cmd=2")
+    × (hold_line (line g) 1204 0 (negsuc 1 ∷ []) ≡ codes "1204 hold pos cmd=-2")
+    × (hold_line (line g) 7 1 (pos 2 ∷ []) ≡ codes "7 hold ")
+
+-- from 0, with the command 2, it goes to 1 to 3, and is observed at 4
+abbrev pub OutsideItsInterval : Global → Type 0
+OutsideItsInterval g =
+    (outside_line (line g) 1 0 0 (record { lo = pos 1; hi = pos 3 }) (pos 4)
+    ≡ codes "1 outside plant pos state x [1..3] observed 4")
+    × (outside_line (line g) 30 0 0 (record { lo = negsuc 12; hi = negsuc 10 }) (pos 0)
+    ≡ codes "30 outside plant pos state x [-13..-11] observed 0")
+
+abbrev pub OtherLines : Type 0
+OtherLines =
+    (ready_line 0 ≡ codes "0 ready") × (ready_line 99999 ≡ codes "99999 ready")
+    × (end_line 20 61 ≡ codes "end 20 events 61")

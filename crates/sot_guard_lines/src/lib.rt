@@ -1,0 +1,25 @@
+//! The lines of a talk.
+//!
+//! [`read_said`] reads one line of a robot: where a plant was observed first, a value that came
+//! from outside, what an external node drafts, that an instant is over, or where all plants were
+//! observed after a tick. Names and numbers are spelled as in a trace. [`numbers_of_lines`] takes
+//! the memory that all lines need, before the first. [`put_hold`], [`put_ready`], [`put_outside`]
+//! and [`put_end`] write what the decision module says beside the lines of a trace.
+#![tactic(auto)]
+
+mod facts;
+mod hold;
+mod laws;
+mod numbers;
+mod place;
+mod read;
+mod said;
+mod told;
+
+pub use facts::lines_are_as_stated;
+pub use hold::put_hold;
+pub use laws::lines_say_once;
+pub use numbers::numbers_of_lines;
+pub use read::read_said;
+pub use said::Said;
+pub use told::{put_end, put_outside, put_ready};

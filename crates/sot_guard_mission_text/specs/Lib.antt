@@ -1,3 +1,0 @@
--- what the public contracts say
-pub mod Fronts
-pub mod Reading

@@ -1,0 +1,69 @@
+-- What is said of the mission in front, and of all that was read.
+use Rattle.std.proofs.Common.{◌≡◌, ℕ, ◌<◌, List, [], ◌++◌, Ok, Err, inl, inr, length, take, refl, sym, ap, ◌∙◌, append-nil, arith}
+use Rattle.std.specs.Prelude.{◌≢◌, Result, IfOk}
+use Rattle.std.specs.declared.alloc.AllocError.{AllocError}
+use Rattle.std.specs.Io.KnownBytes.{Appends}
+use Rattle.sot_ports.specs.Faults.{Rose}
+use Rattle.sot_sections.specs.declared.mission.Need.TheVariants.{Check}
+use Rattle.sot_lang.specs.Tables.{Tables}
+use Rattle.sot_lang.specs.declared.cert.Cert.{Cert}
+use Rattle.sot_tube.specs.Admitted.{Admitted}
+use Rattle.sot_tube.specs.Certified.{IsWellCertified}
+use Rattle.sot_world.specs.Headline.{EveryRunIsSafe}
+use Rattle.sot_report.specs.Missions.{Mission, SpellsMission}
+use Rattle.sot_report.specs.AcceptedTexts.{accepted_text}
+use Rattle.sot_cli.specs.declared.answer.Answer.{Answer}
+use Rattle.sot_guard_program.specs.Conversations.{unopened}
+use Rattle.sot_guard_program.specs.Moments.{Ears, Mouth, Passes, Utters, Ended}
+use Rattle.sot_guard_program.specs.Says.{SaysRobot, SaysMission}
+use Rattle.sot_guard_program.specs.Tellings.{TellsAnswer}
+use Rattle.sot_guard_program.specs.Beginning.{SaysIn, SaysAccepted, SaysJudged}
+use Rattle.sot_guard_program.proofs.Passing.{passes_nil, ended_behind, ended_so, ended_well, ended_told, ended_quiet}
+
+module _ (e f : Ears) (x y : Mouth) (status : ℕ) where
+  -- an answer is told
+  pub answered : (P : Ears → ℕ → List ℕ → List ℕ → Type 0) (passed : List ℕ) (r : Result Answer AllocError) → Passes e f passed
+      → IfOk r (λ a. (a.status ≢ 4) × P f a.status passed a.text.items) → P f 6 passed [] → TellsAnswer r x y status → Ended P e f x y status
+  answered P passed (Ok a) passes says silent tells = ended_told P e f x y passed a.text.items a.status status passes says.0 says.1 tells
+  answered P passed (Err fail) passes says silent quiet = ended_quiet P e f x y passed status passes silent quiet
+
+  -- behind the answer to an accepted mission
+  pub greeted : (acc : Admitted) (z : Mouth) (text : List ℕ) → Utters x z text → text ≡ accepted_text acc.program acc.cert
+      → Ended (SaysIn (SaysRobot acc)) e f z y status → Ended (SaysAccepted acc) e f x y status
+  greeted acc z text utters is r =
+      ended_behind (SaysIn (SaysRobot acc)) (SaysAccepted acc) e e f x z y [] text status (passes_nil e) utters
+      (λ said bytes more says. inl (more, ap (λ l. l ++ more) is, says)) r
+
+  pub judged : (p : Tables) (cert : Cert) → IsWellCertified p cert.jitter cert → EveryRunIsSafe p cert.jitter
+      → Ended (SaysAccepted (record { program = p; cert = cert })) e f x y status → Ended (SaysJudged p cert) e f x y status
+  judged p cert certified safe r =
+      ended_so (SaysAccepted (record { program = p; cert = cert })) (SaysJudged p cert) e f x y status (λ said bytes text says. inl (certified, safe, says)) r
+
+  says_mission : (front : List ℕ) (m : Mission) → SpellsMission Check 0 front m → (said : ℕ) (bytes text : List ℕ)
+      → SaysJudged m.tables m.cert f said bytes text → SaysMission front f said bytes text
+  says_mission front m spells said bytes text (inl (certified, safe, inl (more, is, says))) =
+      inl (m, spells, record { accepted = certified; safe = safe; more = more; text_is = is; says = says })
+  says_mission front m spells said bytes text (inl (certified, safe, inr silent)) = inr (inr (inr silent))
+  says_mission front m spells said bytes text (inr (inl (is, refuses))) = inr (inl (m, spells, is, refuses))
+  says_mission front m spells said bytes text (inr (inr silent)) = inr (inr (inr silent))
+
+  pub accepted : (front : List ℕ) (m : Mission) → SpellsMission Check 0 front m → Ended (SaysJudged m.tables m.cert) e f x y status
+      → Ended (SaysMission front) e f x y status
+  accepted front m spells r = ended_so (SaysJudged m.tables m.cert) (SaysMission front) e f x y status (says_mission front m spells) r
+
+-- the sink failed in the answer to an accepted mission
+pub greeted_in_part : (acc : Admitted) (e : Ears) (x y : Mouth) (text : List ℕ) (sent : ℕ) → text ≡ accepted_text acc.program acc.cert
+    → Rose x.faults y.faults → sent < length text → Appends x.held y.held (take sent text) → Ended (SaysAccepted acc) e e x y 5
+greeted_in_part acc e x y text sent is rose below taken =
+    ended_well (SaysAccepted acc) e e x y [] text 4 5 (passes_nil e) (λ four. absurd (omega arith))
+    (inl (
+      [],
+      is ∙ sym (append-nil (accepted_text acc.program acc.cert)),
+      inr (inr (inr (inl (record {
+        opening = unopened acc;
+        started = refl;
+        said_is = refl;
+        text_is = refl;
+      })))),
+    ))
+    (inr (refl, rose, (sent, below, taken)))

@@ -1,0 +1,60 @@
+use Rattle.std.proofs.Common.{ℕ, ℤ, List, [], refl, sym, ap, ◌∙◌, subst, length, inr, ◌≡◌, IfOk, arith}
+use Rattle.sot_lang.specs.Tables.{Tables}
+use Rattle.sot_lang.specs.TableRules.{MeetsTableRules}
+use Rattle.sot_tube.specs.Certified.{IsWellCertified}
+use Rattle.sot_guard_program.specs.Moments.{ears, mouth, Ended}
+use Rattle.sot_guard_program.specs.Says.{SaysTalk, IsOutside}
+use Rattle.sot_guard_program.specs.Beginning.{SaysFrom, SaysOpened}
+use Rattle.sot_guard_program.proofs.Passing.{passes_nil}
+use Rattle.sot_guard_program.proofs.Begun.{begun}
+use Rattle.sot_guard_program.proofs.Judged.{answered}
+use Rattle.sot_guard_program.proofs.Results.{silent, outside_result}
+use Rattle.sot_guard_program.proofs.talking.begin.Goals as goal
+
+pub returns-in-Err : goal.returns-in-Err
+returns-in-Err g c = silent (SaysFrom c.args.ear.now.ended (SaysOpened c.args.opening)) _ _ (inr (inr (refl, (refl, refl))), λ _. refl)
+
+pub returns-in-Ok-begin : goal.returns-in-Ok-begin
+returns-in-Ok-begin g c =
+    let a = c.args.opening in
+    let t = c.in-Ok-begin.talk in
+    let ended = c.args.ear.now.ended in
+    let e = ears (g.S.Source.left c.args.source.now) (g.S.Source.faults c.args.source.now) c.args.ear.now in
+    let f = ears (g.S.Source.left c.talk_on.new.source) (g.S.Source.faults c.talk_on.new.source) c.talk_on.new.ear in
+    let x = mouth (g.K.Sink.held c.args.sink.now) (g.K.Sink.faults c.args.sink.now) in
+    let y = mouth (g.K.Sink.held c.talk_on.new.sink) (g.K.Sink.faults c.talk_on.new.sink) in
+    let status = c.talk_on.result.0 in
+    let as_program = sym c.requires.program in
+    let rules = subst (λ (p : Tables). MeetsTableRules p) as_program c.requires.rules in
+    let certified = subst (λ (p : Tables). IsWellCertified p a.accepted.cert.jitter a.accepted.cert) as_program c.requires.certified in
+    let begins = c.in-Ok-begin.ensures in
+    let count : c.len.result ≡ length a.starts = omega (arith, c.len.ensures, c.in-Ok.ensures.len, ap length c.starts.ensures) in
+    begun a t ended e f x y status rules certified
+    (record {
+      all = c.requires.all;
+      opening = begins.opening;
+      safer = begins.safer;
+      trusted = begins.trusted;
+      accepted = begins.accepted;
+      turn = begins.turn;
+      no_drafts = begins.no_drafts;
+      no_events = begins.no_events;
+    })
+    (subst (λ (n : ℕ). Ended (SaysFrom ended (SaysTalk t n)) e f x y status) count c.talk_on.ensures)
+
+pub returns-in-Err-NotSafer : goal.returns-in-Err-NotSafer
+returns-in-Err-NotSafer g c =
+    let a = c.args.opening in
+    let ended = c.args.ear.now.ended in
+    let e = ears (g.S.Source.left c.args.source.now) (g.S.Source.faults c.args.source.now) c.args.ear.now in
+    let x = mouth (g.K.Sink.held c.args.sink.now) (g.K.Sink.faults c.args.sink.now) in
+    let y = mouth (g.K.Sink.held c.tell.new.sink) (g.K.Sink.faults c.tell.new.sink) in
+    let r = c.outside.result in
+    let starts = c.deref.ensures.value ∙ c.in-Ok.ensures.items ∙ c.starts.ensures in
+    let text = subst (λ (p : Tables). IfOk r (λ m. IsOutside p a.starts m.text.items)) (sym c.requires.program)
+    (subst (λ (s : List (List ℤ)). IfOk r (λ m. IsOutside c.args.p.now s m.text.items)) starts c.outside.ensures.text) in
+    answered e e x y c.tell.result.0 (SaysFrom ended (SaysOpened a)) [] r (passes_nil e) (outside_result r a ended e c.outside.ensures.status text)
+    (inr (inr (refl, (refl, refl))), λ _. refl) c.tell.ensures
+
+pub returns : goal.returns
+returns g c = silent (SaysFrom c.args.ear.now.ended (SaysOpened c.args.opening)) _ _ (inr (inr (refl, (refl, refl))), λ _. refl)

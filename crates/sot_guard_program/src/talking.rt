@@ -1,0 +1,116 @@
+//! A robot's talk about an accepted mission.
+
+ghost use Rattle.std.specs.Prelude.{◌≡◌, ◌<◌, ◌-◌, ◌^◌};
+ghost use Rattle.sot_lang.specs.TableRules.{MeetsTableRules};
+ghost use Rattle.sot_tube.specs.Certified.{IsWellCertified};
+ghost use Rattle.sot_trace.specs.Words.{AreWords};
+ghost use Rattle.sot_guard_protocol.specs.Openings.{HasAll};
+ghost use Rattle.sot_guard_input.specs.Reading.{IsSettled};
+ghost use Rattle.sot_guard_program.specs.Moments.{ears, mouth, Ended};
+ghost use Rattle.sot_guard_program.specs.Says.{SaysTalk, SaysRobot};
+ghost use Rattle.sot_guard_program.specs.Beginning.{SaysOpened, SaysIn, SaysFrom};
+
+use crate::halt::stopped;
+use crate::speaker::Speaker;
+use crate::starts::hear_starts;
+use crate::tell::tell;
+use sot_cli::{Status, outside};
+use sot_guard_input::Ear;
+use sot_guard_protocol::{Talk, TalkOpening};
+use sot_lang::Typed;
+use sot_ports::{Sink, Source};
+use sot_text_output::room;
+use sot_tube::Accepted;
+use sot_world::OpenFail;
+use std::alloc::Global;
+
+// Hears and answers what is said in a talk, of which these were the lines so far.
+fn talk_on<S: Source, K: Sink>(
+    mut speaker: Speaker<'_>,
+    lines: usize,
+    ear: &mut Ear,
+    source: &mut S,
+    sink: &mut K,
+) -> Status
+    requires few { lines < 2 ^ 64 - 1 }
+    requires settled { IsSettled (S.left source.old) ear.old.buffer ear.old.ended }
+    ensures { Ended (SaysFrom ear.old.ended (SaysTalk speaker.entry.talk lines))
+        (ears (S.left source.old) (S.faults source.old) ear.old)
+        (ears (S.left source.new) (S.faults source.new) ear.new)
+        (mouth (K.held sink.old) (K.faults sink.old))
+        (mouth (K.held sink.new) (K.faults sink.new)) result.0 }
+{
+    if ear.has_ended() {
+        return speaker.finish(sink);
+    }
+    match speaker.hear_all(lines + 1, ear, source, sink) {
+        Ok(()) => speaker.finish(sink),
+        Err(halt) => speaker.stop(halt, sink),
+    }
+}
+
+// Begins a talk about plants that were all observed.
+fn begin<S: Source, K: Sink>(
+    alloc: Global,
+    p: &Typed,
+    opening: TalkOpening<'_>,
+    waiting: Vec<u8>,
+    ear: &mut Ear,
+    source: &mut S,
+    sink: &mut K,
+) -> Status
+    requires program { opening.accepted.program ≡ p.now }
+    requires all { HasAll opening }
+    requires rules { MeetsTableRules p.now }
+    requires certified { IsWellCertified p.now opening.accepted.cert.jitter opening.accepted.cert }
+    requires settled { IsSettled (S.left source.old) ear.old.buffer ear.old.ended }
+    ensures { Ended (SaysFrom ear.old.ended (SaysOpened opening.entry))
+        (ears (S.left source.old) (S.faults source.old) ear.old)
+        (ears (S.left source.new) (S.faults source.new) ear.new)
+        (mouth (K.held sink.old) (K.faults sink.old))
+        (mouth (K.held sink.new) (K.faults sink.new)) result.0 }
+{
+    let starts = match Vec::from_slice(alloc, opening.starts()) {
+        Ok(starts) => starts,
+        Err(_) => return Status(6),
+    };
+    match Talk::begin(alloc, opening) {
+        Ok(talk) => talk_on(Speaker { talk, waiting }, starts.len(), ear, source, sink),
+        Err(OpenFail::NotSafer { module }) => tell(outside(alloc, p, &starts, module), sink),
+        Err(OpenFail::Memory) => Status(6),
+    }
+}
+
+/// Hears where each plant is observed first, and then answers line by line what is said. The bytes
+/// through which answers are written have all their room before the first line.
+pub(crate) fn converse<S: Source, K: Sink>(
+    alloc: Global,
+    accepted: &Accepted<'_>,
+    ear: &mut Ear,
+    source: &mut S,
+    sink: &mut K,
+) -> Status
+    requires words { AreWords accepted.now.program }
+    requires certified { IsWellCertified accepted.now.program accepted.now.cert.jitter
+        accepted.now.cert }
+    requires settled { IsSettled (S.left source.old) ear.old.buffer ear.old.ended }
+    ensures { Ended (SaysIn (SaysRobot accepted.now))
+        (ears (S.left source.old) (S.faults source.old) ear.old)
+        (ears (S.left source.new) (S.faults source.new) ear.new)
+        (mouth (K.held sink.old) (K.faults sink.old))
+        (mouth (K.held sink.new) (K.faults sink.new)) result.0 }
+{
+    let p = accepted.typed();
+    let mut waiting = match room(alloc) {
+        Ok(waiting) => waiting,
+        Err(_) => return Status(6),
+    };
+    let mut opening = match TalkOpening::new(alloc, accepted) {
+        Ok(opening) => opening,
+        Err(_) => return Status(6),
+    };
+    match hear_starts(&mut opening, p.plants.len(), ear, source) {
+        Ok(()) => begin(alloc, p, opening, waiting, ear, source, sink),
+        Err(halt) => stopped(&mut waiting, halt, sink),
+    }
+}

@@ -1,0 +1,39 @@
+-- The lines that a robot is answered with.
+use Rattle.std.specs.Prelude.{ℕ, ◌+◌, ◌<◌, ℤ, List, [], ◌∷◌, ◌++◌, Option, Some, None, map, length}
+use Rattle.sot_lists.specs.Places.{At}
+use Rattle.sot_lang.specs.declared.tables.PlantInfo.{PlantInfo}
+use Rattle.sot_lang.specs.Tables.{Tables}
+use Rattle.sot_world.specs.declared.outcome.Firing.{Firing}
+use Rattle.sot_world.specs.HistoryEntry.{FireAt, DecideAt}
+use Rattle.sot_trace.specs.Lines.{line_of}
+use Rattle.sot_guard.specs.declared.outside.Outside.{Outside}
+use Rattle.sot_guard.specs.declared.told.Told.{Told}
+use Rattle.sot_guard.specs.declared.told.Told.TheVariants.{Decided, Fired}
+use Rattle.sot_guard_lines.specs.Lines.{hold_line, ready_line, outside_line}
+
+-- what happened at a time, as a trace tells it
+abbrev pub told_line : Tables → ℕ → Told → List ℕ
+told_line p time (Decided m mode) = line_of p (DecideAt time m mode)
+told_line p time (Fired n firing) = line_of p (FireAt time n firing.draft firing.enabled)
+
+-- the nodes that fired are there
+abbrev pub AreThere : Tables → List Told → Type 0
+AreThere p told = (i n : ℕ) (firing : Firing) → At told i (Fired n firing) → n < length p.nodes
+
+-- the commands that hold each of these plants, which are numbered from this place on
+abbrev pub hold_lines : Tables → ℕ → List ℤ → ℕ → List PlantInfo → List (List ℕ)
+hold_lines p time scalars k [] = []
+hold_lines p time scalars k (x ∷ xs) =
+    hold_line p time k scalars ∷ hold_lines p time scalars (k + 1) xs
+
+-- the lines of an instant: what happened in order, the commands in force, and that it is over
+abbrev pub instant_lines : Tables → ℕ → List ℤ → List Told → List (List ℕ)
+instant_lines p time scalars told =
+    map (told_line p time) told
+    ++ (hold_lines p time scalars 0 p.plants ++ (ready_line time ∷ []))
+
+-- the line of a state variable that is observed outside its interval, if one is
+abbrev pub outside_lines : Tables → ℕ → Option Outside → List (List ℕ)
+outside_lines p time None = []
+outside_lines p time (Some o) =
+    outside_line p time o.plant o.state o.bounds o.value ∷ []

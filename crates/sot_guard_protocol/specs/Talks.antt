@@ -1,0 +1,124 @@
+-- What contracts see of a talk, what each line of the robot changes in it and is answered with, and
+-- why a line is not taken.
+use Rattle.std.specs.Prelude.{ℕ, ◌+◌, ◌-◌, ◌^◌, ◌≤◌, ◌≡◌, ◌⊎◌, ℤ, Bool, List, [], ◌∷◌}
+use Rattle.std.specs.Prelude.{Option, Some, Result}
+use Rattle.std.specs.Prelude.{MatchResult, map, min, length}
+use Rattle.std.specs.Option.{option_map}
+use Rattle.sot_lists.specs.Places.{Has}
+use Rattle.sot_lang.specs.Tables.{Tables}
+use Rattle.sot_code.specs.Recorded.{in_slots}
+use Rattle.sot_world.specs.HistoryEntry.{InputAt}
+use Rattle.sot_trace.specs.Lines.{line_of}
+use Rattle.sot_trace.specs.Traces.{text_of}
+use Rattle.sot_trace_lines.specs.Bits.{Has64Bits}
+use Rattle.sot_summary.specs.Outside.{points_in}
+use Rattle.sot_guard.specs.declared.outside.Outside.{Outside}
+use Rattle.sot_guard.specs.declared.turn.SessionEvent.{SessionEvent}
+use Rattle.sot_guard.specs.declared.turn.SessionEvent.TheVariants.{Instant, Tick}
+use Rattle.sot_guard.specs.declared.misheard.Misheard.{Misheard}
+use Rattle.sot_guard.specs.declared.misheard.Misheard.TheVariants.{OutOfTurn, NotALine}
+use Rattle.sot_guard.specs.declared.misheard.Misheard.TheVariants.{OutsideType}
+use Rattle.sot_guard.specs.Hearing.{Hearing, program_of, TakesInput, TakesDraft}
+use Rattle.sot_guard.specs.Hearing.{GoesThrough, TakesTick, RefusesInput, RefusesDraft}
+use Rattle.sot_guard.specs.Hearing.{RefusesGo, RefusesTick}
+use Rattle.sot_guard_lines.specs.Sayings.{Saying, StartSaid, InputSaid, DraftSaid, GoSaid, TickSaid}
+use Rattle.sot_guard_lines.specs.Sayings.{IsSaid}
+use Rattle.sot_guard_protocol.specs.declared.heard.Heard.{Heard}
+use Rattle.sot_guard_protocol.specs.declared.heard.Heard.TheVariants as heard
+use Rattle.sot_guard_protocol.specs.Answers.{instant_lines, outside_lines}
+
+-- a session, and how many events there were so far: inputs, decisions, firings and ticks
+pub record Talking : Type 0 where
+  pub hearing : Hearing
+  pub events : ℕ
+
+-- the program, the time and the numbers of all scalars
+abbrev pub tables_of : Talking → Tables
+tables_of t = program_of t.hearing
+
+abbrev pub time_of : Talking → ℕ
+time_of t = t.hearing.guarding.at.time
+
+abbrev pub scalars_of : Talking → List ℤ
+scalars_of t = t.hearing.guarding.at.scalars
+
+-- so many events more, as far as a count has 64 bits
+abbrev pub counted : ℕ → ℕ → ℕ
+counted n more = min (n + more) (2 ^ 64 - 1)
+
+-- the draft of some slots, without their marks
+abbrev pub draft_of : List (Option (Bool × ℤ)) → List (Option ℤ)
+draft_of slots = in_slots (map (option_map (λ slot. slot.1)) slots)
+
+-- what is said is taken: what that changes, and the lines that it is answered with
+abbrev pub Takes : Talking → Saying → Heard → List (List ℕ) → Talking → Type 0
+Takes t (StartSaid plant point) h lines u = ⊥
+Takes t (InputSaid topic value) h lines u =
+    (h ≡ heard.Input) × TakesInput t.hearing topic value u.hearing
+    × (u.events ≡ counted t.events 1)
+    × (lines ≡ line_of (tables_of u) (InputAt (time_of u) topic value) ∷ [])
+Takes t (DraftSaid node slots) h lines u =
+    (h ≡ heard.Draft) × TakesDraft t.hearing node (draft_of slots) u.hearing
+    × (u.events ≡ t.events) × (lines ≡ [])
+Takes t GoSaid h lines u =
+    (h ≡ heard.Go) × GoesThrough t.hearing u.hearing
+    × (u.events ≡ counted t.events (length u.hearing.told))
+    × (lines ≡ instant_lines (tables_of u) (time_of u) (scalars_of u) u.hearing.told)
+Takes t (TickSaid states) h lines u =
+    (outside : Option Outside) × (h ≡ heard.Tick)
+    × TakesTick t.hearing (points_in (tables_of t).plants states) outside u.hearing
+    × (u.events ≡ counted t.events 1)
+    × (lines ≡ outside_lines (tables_of u) (time_of u) outside)
+
+-- some number has more than 64 bits
+abbrev pub HasLarge : List ℤ → Type 0
+HasLarge zs = (z : ℤ) × Has zs z × (Has64Bits z → ⊥)
+
+abbrev pub HasLargeSlot : List (Option (Bool × ℤ)) → Type 0
+HasLargeSlot slots = (slot : Bool × ℤ) × Has slots (Some slot) × (Has64Bits slot.1 → ⊥)
+
+-- a number of more than 64 bits comes in its turn
+abbrev pub IsTooLarge : Hearing → SessionEvent → Misheard → Type 0
+IsTooLarge h turn why = (why ≡ OutsideType) × (h.turn ≡ turn)
+
+-- why a line with such a number is not taken, which may come in this turn
+abbrev pub RefusesLarge : Hearing → SessionEvent → Misheard → Type 0
+RefusesLarge h turn why =
+    IsTooLarge h turn why ⊎ ((why ≡ OutOfTurn) × (h.turn ≡ turn → ⊥))
+
+-- what is said is not taken
+abbrev pub Refuses : Hearing → Saying → Misheard → Type 0
+Refuses h (StartSaid plant point) why = why ≡ OutOfTurn
+Refuses h (InputSaid topic value) why =
+    RefusesInput h topic value why ⊎ (IsTooLarge h Instant why × HasLarge value)
+Refuses h (DraftSaid node slots) why =
+    RefusesDraft h node why ⊎ (IsTooLarge h Instant why × HasLargeSlot slots)
+Refuses h GoSaid why = RefusesGo h why
+Refuses h (TickSaid states) why =
+    RefusesTick h (points_in (program_of h).plants states) why
+    ⊎ (IsTooLarge h Tick why × HasLarge states)
+
+-- what is said is taken, and answered; or it is not, and nothing changes, and nothing is put
+abbrev pub Answers : Talking → Saying → Talking → (List ℕ → Type 0) → Result Heard Misheard → Type 0
+Answers t s u puts result = MatchResult result
+    (λ h. (lines : List (List ℕ)) × Takes t s h lines u × puts (text_of lines))
+    (λ why. (u ≡ t) × Refuses t.hearing s why × puts [])
+
+-- a line is taken
+pub record Hears (t : Talking) (line : List ℕ) (h : Heard) (u : Talking) (puts : List ℕ → Type 0)
+    : Type 0 where
+  pub saying : Saying
+  pub said : IsSaid (tables_of t) line saying
+  pub lines : List (List ℕ)
+  pub takes : Takes t saying h lines u
+  pub put : puts (text_of lines)
+
+-- a line says nothing, or what it says is not taken
+abbrev pub Mishears : Talking → List ℕ → Misheard → Type 0
+Mishears t line why =
+    ((why ≡ NotALine) × ((s : Saying) → IsSaid (tables_of t) line s → ⊥))
+    ⊎ ((s : Saying) × IsSaid (tables_of t) line s × Refuses t.hearing s why)
+
+-- nothing is said any more: the last instant was gone through
+abbrev pub IsOver : Talking → Type 0
+IsOver t = (t.hearing.turn ≡ Tick) × (100000 ≤ time_of t)

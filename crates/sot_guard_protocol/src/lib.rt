@@ -1,0 +1,19 @@
+//! A talk with a robot, line by line.
+//!
+//! An [`TalkOpening`] hears where each plant was observed first. It becomes a [`Talk`], which hears a
+//! line of the robot at a time, and puts the lines that it is answered with.
+#![tactic(auto)]
+
+mod desk;
+mod fill;
+mod heard;
+mod laws;
+mod opening;
+mod places;
+mod put;
+mod talk;
+
+pub use heard::Heard;
+pub use laws::{trusted_talks_are_observed, trusted_talks_are_safe};
+pub use opening::TalkOpening;
+pub use talk::Talk;

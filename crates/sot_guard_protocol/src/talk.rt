@@ -1,0 +1,124 @@
+//! A talk with a robot.
+
+ghost use Rattle.std.specs.Prelude.{◌≡◌, ◌∷◌, [], ◌↔◌, true, IsTrue, IfOk, IfErr, OnErr};
+ghost use Rattle.sot_trace.specs.Traces.{text_of};
+ghost use Rattle.sot_world.specs.Configurations.{IsOpening, IsSafer};
+ghost use Rattle.sot_world.specs.Opens.{IsFirstOutside, IfNotSafer};
+ghost use Rattle.sot_guard.specs.Hearing.{NoDrafts};
+ghost use Rattle.sot_guard.specs.declared.turn.SessionEvent.TheVariants.{Instant};
+ghost use Rattle.sot_guard_lines.specs.Lines.{end_line};
+ghost use Rattle.sot_guard_protocol.specs.Talks.{time_of, Hears, Mishears, IsOver};
+ghost use Rattle.sot_guard_protocol.specs.Openings.{HasAll};
+
+use crate::desk::SessionDesk;
+use crate::heard::Heard;
+use crate::opening::TalkOpening;
+use sot_guard::{Misheard, Session, SessionEvent};
+use sot_guard_lines::{put_end, read_said};
+use sot_text_output::Out;
+use sot_world::OpenFail;
+use std::alloc::Global;
+use std::marker::Model;
+
+/// A talk with a robot whose plants were observed first: an instant, a tick, and so on. It has room
+/// for the numbers of any line.
+#[derive(Drop)]
+pub struct Talk<'a> {
+    desk: SessionDesk<'a>,
+    numbers: Vec<i64>,
+}
+
+impl<'a> Model for Talk<'a> {
+    ghost use Rattle.sot_guard_protocol.specs.Talks.{Talking};
+    ghost use Rattle.sot_lang.specs.contracts.term.Term as term;
+    ghost use Rattle.sot_lang.specs.contracts.act.Act as act;
+    ghost use Rattle.std.specs.Coded.{codes};
+
+    ghost Value = { Talking };
+
+    ghost coded = { Prim.hlevel (codes, term.the_row.coded, act.the_row.coded) };
+
+    ghost use Rattle.sot_guard_protocol.specs.TalkView.{HearsAnyLine};
+
+    ghost view = { λ t. t.desk };
+
+    ghost invariant = { HearsAnyLine };
+}
+
+impl<'a> Talk<'a> {
+    /// The talk about plants that were all observed. It takes all memory that it will ever need.
+    /// `NotSafer` names the first module whose plant was observed outside the module's safer
+    /// region.
+    pub fn begin(alloc: Global, opening: TalkOpening<'a>) -> Result<Talk<'a>, OpenFail>
+        requires { HasAll opening }
+        ensures opening { IfOk result (λ t.
+            IsOpening opening.entry.accepted.program opening.entry.starts t.hearing.guarding.at) }
+        ensures safer { IfOk result (λ t.
+            IsSafer opening.entry.accepted.program t.hearing.guarding.at) }
+        ensures trusted { IfOk result (λ t. t.hearing.guarding.trusted ≡ true) }
+        ensures accepted { IfOk result (λ t. t.hearing.guarding.accepted ≡ opening.entry.accepted) }
+        ensures turn { IfOk result (λ t. t.hearing.turn ≡ Instant) }
+        ensures no_drafts { IfOk result (λ t. NoDrafts t.hearing) }
+        ensures no_events { IfOk result (λ t. t.events ≡ 0) }
+        ensures not_safer { IfErr result (λ f. IfNotSafer f (λ m.
+            IsFirstOutside opening.entry.accepted.program opening.entry.starts m)) }
+    {
+        let acc = opening.accepted();
+        let lists = opening.into_lists();
+        let session = match Session::begin(alloc, acc, &lists.starts) {
+            Ok(session) => session,
+            Err(fail) => return Err(fail),
+        };
+        match vec![in alloc; 0; acc.typed().scalars.len()] {
+            Ok(scalars) => Ok(Talk {
+                desk: SessionDesk::new(session, lists.starts, scalars),
+                numbers: lists.numbers,
+            }),
+            Err(_) => Err(OpenFail::Memory),
+        }
+    }
+
+    /// Hears a line of the robot, without its line end, and puts the lines that it is answered
+    /// with, each with a line end (LF). After an error nothing has changed, and nothing was put.
+    /// Once the talk [`Talk::is_over`], each line is out of turn, and a tick too far.
+    pub fn hear<O: Out>(&mut self, line: &[u8], out: &mut O) -> Result<Heard, Misheard>
+        ensures heard { IfOk result (λ h.
+            Hears self.old line.now h self.new (O.puts out.old out.new)) }
+        ensures same { OnErr result (self.new ≡ self.old) }
+        ensures unheard { IfErr result (λ why. Mishears self.old line.now why) }
+        ensures nothing_put { OnErr result (O.puts out.old out.new []) }
+    {
+        let p = self.desk.typed();
+        match read_said(p, line, &mut self.numbers) {
+            Some(said) => self.desk.take(said, &self.numbers, out),
+            None => Err(Misheard::NotALine),
+        }
+    }
+
+    /// Whether nothing may come any more: the instant of time 100,000 was gone through.
+    pub fn is_over(&self) -> bool
+        ensures { IsTrue result ↔ IsOver self.now }
+    {
+        let session = self.desk.session();
+        match session.turn() {
+            SessionEvent::Instant => false,
+            SessionEvent::Tick => session.guard().time() >= 100_000,
+        }
+    }
+
+    /// Whether no plant was told to be outside its model so far.
+    pub fn trusted(&self) -> bool
+        ensures { result ≡ self.now.hearing.guarding.trusted }
+    {
+        self.desk.session().guard().trusted()
+    }
+
+    /// Puts the last line: the time, and how many inputs, decisions, firings and ticks there were.
+    pub fn end<O: Out>(&self, out: &mut O)
+        ensures { O.puts out.old out.new
+            (text_of (end_line (time_of self.now) self.now.events ∷ [])) }
+    {
+        put_end(out, self.desk.session().guard().time(), self.desk.events());
+        out.put_byte(b'\n')
+    }
+}

@@ -1,5 +1,0 @@
-use Rattle.std.proofs.Common.{◌≡◌, false, map, take}
-use Rattle.sot_guard_session.proofs.blank.no_flags.Given as goal
-
-abbrev pub invariant-loop-node : goal.invariant-loop-node
-invariant-loop-node l = l.flags.items ≡ map (λ n. false) (take l._node-index l.nodes)

@@ -1,5 +1,0 @@
-use Rattle.sot_halving.specs.Widest.{IsWidestOf}
-use Rattle.sot_halving.proofs.halves.widest.Given as goal
-
-abbrev pub invariant-loop-i : goal.invariant-loop-i
-invariant-loop-i l = IsWidestOf l.cell l.i l.axis

@@ -1,5 +1,0 @@
-use Rattle.sot_law_distrust.proofs.Talks.{in_sc}
-use Rattle.sot_law_distrust.proofs.laws.distrusted_talks_are_in_mode_sc.Goals as goal
-
-pub returns : goal.returns
-returns c = in_sc

@@ -1,5 +1,0 @@
-use Rattle.sot_law_distrust.proofs.Talks.{outside_ends}
-use Rattle.sot_law_distrust.proofs.laws.outside_ends_trust.Goals as goal
-
-pub returns : goal.returns
-returns c = outside_ends

@@ -1,0 +1,8 @@
+//! Each of these functions does nothing, and its contract is the law.
+ghost use Rattle.sot_law_equal_flights.specs.Laws.{HistoriesAlikeSoFar, HistoriesAlike};
+
+/// A history of a flight is one of the same flight of all tables that look the same.
+pub fn histories_are_alike()
+    ensures so_far { HistoriesAlikeSoFar }
+    ensures whole { HistoriesAlike }
+{}

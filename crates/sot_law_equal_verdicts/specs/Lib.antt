@@ -1,0 +1,3 @@
+-- what the public contracts say
+pub mod Laws
+pub mod ModuleLaws

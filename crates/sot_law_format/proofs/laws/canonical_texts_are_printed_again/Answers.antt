@@ -1,5 +1,0 @@
-use Rattle.sot_law_format.proofs.Canonical.{printed_again}
-use Rattle.sot_law_format.proofs.laws.canonical_texts_are_printed_again.Goals as goal
-
-pub returns : goal.returns
-returns c = printed_again

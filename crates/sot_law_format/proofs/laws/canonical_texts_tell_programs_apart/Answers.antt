@@ -1,5 +1,0 @@
-use Rattle.sot_law_format.proofs.Canonical.{told_apart}
-use Rattle.sot_law_format.proofs.laws.canonical_texts_tell_programs_apart.Goals as goal
-
-pub returns : goal.returns
-returns c = told_apart

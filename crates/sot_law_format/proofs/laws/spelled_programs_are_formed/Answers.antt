@@ -1,5 +1,0 @@
-use Rattle.sot_law_format.proofs.FormedPrograms.{spelled_formed}
-use Rattle.sot_law_format.proofs.laws.spelled_programs_are_formed.Goals as goal
-
-pub returns : goal.returns
-returns c = spelled_formed

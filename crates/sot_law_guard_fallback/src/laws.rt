@@ -1,0 +1,59 @@
+//! Each of these functions does nothing, and its contract is the law.
+
+ghost use Rattle.std.specs.Global.{Global};
+ghost use Rattle.sot_law_guard_fallback.specs.Distrust.{
+  DistrustIsForGood,
+  DistrustedInstantsAreSafe,
+  DistrustedTalksAreInModeSc,
+  ModesStaySc,
+  OutsideEndsTrust,
+  TrustEndsByAnOutside,
+};
+ghost use Rattle.sot_law_guard_fallback.specs.Examples.{
+  LineHoldsSafeDraft,
+  LineKeepsCommand,
+  LineLeavesSc,
+  LineOnlyStaysSc,
+  LineStaysSc,
+};
+
+/// Once the models are not trusted, they are not trusted again.
+pub fn distrust_is_for_good()
+    ensures { DistrustIsForGood }
+{}
+
+/// Where the trust ends in a line, its answer tells a plant to be outside its model.
+pub fn trust_ends_by_an_outside()
+    ensures { TrustEndsByAnOutside }
+{}
+
+/// Where a tick is answered at all, the trust ends with it, and every module is in mode SC.
+pub fn outside_ends_trust()
+    ensures { OutsideEndsTrust }
+{}
+
+/// Every module stays in mode SC where the models are not trusted.
+pub fn modes_stay_sc()
+    ensures { ModesStaySc }
+{}
+
+/// A talk that begins with trust has every module in mode SC wherever it has lost it.
+pub fn distrusted_talks_are_in_mode_sc()
+    ensures { DistrustedTalksAreInModeSc }
+{}
+
+/// In each instant without trust each decision that is told is for mode SC, and the numbers that
+/// are held come from nodes that are no module's advanced controller.
+pub fn distrusted_instants_are_safe()
+    ensures { DistrustedInstantsAreSafe }
+{}
+
+/// The running example without trust stays in mode SC where with trust it would leave it, and
+/// what its advanced node drafts is not held.
+pub fn line_is_distrusted()
+    ensures leaves_sc { (g : Global) → LineLeavesSc g }
+    ensures stays_sc { (g : Global) → LineStaysSc g }
+    ensures only_stays_sc { (g : Global) → LineOnlyStaysSc g }
+    ensures keeps_command { (g : Global) → LineKeepsCommand g }
+    ensures holds_safe_draft { (g : Global) → LineHoldsSafeDraft g }
+{}

@@ -1,5 +1,0 @@
-use Rattle.sot_law_observed.proofs.Main.{observed_runs}
-use Rattle.sot_law_observed.proofs.laws.observed_runs_are_safe.Goals as goal
-
-pub returns : goal.returns
-returns c = observed_runs

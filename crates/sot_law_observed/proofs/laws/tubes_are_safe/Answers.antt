@@ -1,8 +1,0 @@
-use Rattle.sot_law_observed.proofs.Main.{safe, boxes}
-use Rattle.sot_law_observed.proofs.laws.tubes_are_safe.Goals as goal
-
-pub returns : goal.returns
-returns c = record {
-  safe = safe;
-  boxes = boxes;
-}

@@ -1,5 +1,0 @@
-use Rattle.sot_law_other_regions.proofs.Programs.{read_back}
-use Rattle.sot_law_other_regions.proofs.laws.canonical_texts_with_regions_are_read_back.Goals as goal
-
-pub returns : goal.returns
-returns c = read_back

@@ -1,5 +1,0 @@
-use Rattle.sot_law_other_regions.proofs.Names.{nothing_else}
-use Rattle.sot_law_other_regions.proofs.laws.nothing_but_regions_changes.Goals as goal
-
-pub returns : goal.returns
-returns c = nothing_else

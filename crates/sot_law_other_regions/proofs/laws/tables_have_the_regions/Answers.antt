@@ -1,5 +1,0 @@
-use Rattle.sot_law_other_regions.proofs.Tables.{tables_have}
-use Rattle.sot_law_other_regions.proofs.laws.tables_have_the_regions.Goals as goal
-
-pub returns : goal.returns
-returns c = tables_have

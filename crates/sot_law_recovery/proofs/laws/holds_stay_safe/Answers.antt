@@ -1,5 +1,0 @@
-use Rattle.sot_law_recovery.proofs.Rows.{holds_stay_safe}
-use Rattle.sot_law_recovery.proofs.laws.holds_stay_safe.Goals as goal
-
-pub returns : goal.returns
-returns c = holds_stay_safe

@@ -1,5 +1,0 @@
-use Rattle.sot_law_recovery.proofs.Rows.{zero_keeps}
-use Rattle.sot_law_recovery.proofs.laws.rank_zero_keeps.Goals as goal
-
-pub returns : goal.returns
-returns c = zero_keeps

@@ -1,0 +1,5 @@
+use Rattle.sot_law_runs.proofs.Runs.{runs_recover}
+use Rattle.sot_law_runs.proofs.recovery_laws.runs_recover.Goals as goal
+
+pub returns : goal.returns
+returns c = runs_recover

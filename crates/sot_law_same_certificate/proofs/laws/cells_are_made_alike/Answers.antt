@@ -1,6 +1,0 @@
--- What is found for a list is one thing.
-use Rattle.sot_law_same_certificate.proofs.Certify.{cells_alike}
-use Rattle.sot_law_same_certificate.proofs.laws.cells_are_made_alike.Goals as goal
-
-pub returns : goal.returns
-returns c = cells_alike

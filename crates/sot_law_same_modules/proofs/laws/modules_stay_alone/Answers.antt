@@ -1,5 +1,0 @@
-use Rattle.sot_law_same_modules.proofs.Looks.{stays_alone}
-use Rattle.sot_law_same_modules.proofs.laws.modules_stay_alone.Goals as goal
-
-pub returns : goal.returns
-returns c t u a b look one alone = stays_alone t u a b look one alone

@@ -1,5 +1,0 @@
-use Rattle.sot_law_same_ranks.proofs.Ranks.{one_answer}
-use Rattle.sot_law_same_ranks.proofs.laws.modules_have_one_answer.Goals as goal
-
-pub returns : goal.returns
-returns c = one_answer

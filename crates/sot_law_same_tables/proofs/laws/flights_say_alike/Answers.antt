@@ -1,6 +1,0 @@
--- What a flight says is read from what tables look like.
-use Rattle.sot_law_same_tables.proofs.Flights.{flights_alike}
-use Rattle.sot_law_same_tables.proofs.laws.flights_say_alike.Goals as goal
-
-pub returns : goal.returns
-returns c = flights_alike

@@ -1,2 +1,0 @@
--- line ends in bytes that come piece by piece
-pub mod Ends

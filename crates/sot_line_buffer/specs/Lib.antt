@@ -1,2 +1,0 @@
--- bytes that wait, and what is waited for
-pub mod Waiting

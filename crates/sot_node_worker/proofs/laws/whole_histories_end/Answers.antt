@@ -1,5 +1,0 @@
-use Rattle.sot_node_worker.proofs.Histories.{whole_histories_end}
-use Rattle.sot_node_worker.proofs.laws.whole_histories_end.Goals as goal
-
-pub returns : goal.returns
-returns c = whole_histories_end

@@ -1,4 +1,0 @@
-use Rattle.sot_node_worker.proofs.turns.ask.Goals as goal
-
-pub returns : goal.returns
-returns g c = c.decide.ensures.asked

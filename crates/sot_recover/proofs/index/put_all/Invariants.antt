@@ -1,0 +1,7 @@
+use Rattle.std.proofs.Common.{ℕ, ◌<◌, ◌*◌, ◌↔◌}
+use Rattle.sot_lists.specs.Places.{Has}
+use Rattle.sot_recover.specs.Meeting.{MeetsAt}
+use Rattle.sot_recover.proofs.index.put_all.Given as goal
+
+abbrev pub invariant-loop-k : goal.invariant-loop-k
+invariant-loop-k l = (i : ℕ) → Has l.found.items i ↔ ((i < l.k * 64) × MeetsAt l.boxes l.b i)

@@ -1,5 +1,0 @@
-use Rattle.sot_regions_commands.specs.Steps.{ArePadded}
-use Rattle.sot_regions_commands.proofs.before.padded.Given as goal
-
-abbrev pub invariant-loop-none : goal.invariant-loop-none
-invariant-loop-none l = ArePadded l.fn.cells.items l.all.items l._none

@@ -1,0 +1,24 @@
+-- The lines of `soter_regions` that are lines of no other program.
+use Rattle.std.specs.Prelude.{ℕ, List, ◌++◌, codes}
+use Rattle.std.specs.Fmt.{decimal}
+use Rattle.sot_lang.specs.Tables.{Tables}
+use Rattle.sot_lang.specs.Names.{module_name}
+use Rattle.sot_report.specs.Pieces.{line, point_text}
+use Rattle.sot_regions_program.specs.declared.refusal.RegionsRefusal.{RegionsRefusal}
+use Rattle.sot_regions_program.specs.declared.refusal.RegionsRefusal.TheVariants.{Jitter, SafeNone}
+use Rattle.sot_regions_program.specs.declared.refusal.RegionsRefusal.TheVariants.{TooMany, SaferNone}
+
+abbrev pub usage_text : List ℕ
+usage_text = line (codes "usage: soter_regions [JITTER]")
+
+-- `refused regions module NAME`, which goes on
+abbrev pub of_module : Tables → ℕ → List ℕ
+of_module t m = codes "refused regions module " ++ module_name t m
+
+-- a jitter in digits, and a grain as a point
+abbrev pub refusal_line : Tables → RegionsRefusal → List ℕ
+refusal_line t (Jitter j) = line (codes "refused regions jitter " ++ decimal j)
+refusal_line t (SafeNone m grain) =
+    line (of_module t m ++ codes " safe none grain " ++ point_text grain)
+refusal_line t (TooMany m) = line (of_module t m ++ codes " safe TooMany")
+refusal_line t (SaferNone m) = line (of_module t m ++ codes " safer none")

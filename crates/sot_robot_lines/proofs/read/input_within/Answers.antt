@@ -1,5 +1,0 @@
-use Rattle.std.proofs.Common.{refl}
-use Rattle.sot_robot_lines.proofs.read.input_within.Goals as goal
-
-pub returns-clause-read : goal.returns-clause-read
-returns-clause-read c = c.in-Ok.ensures.read 0 refl

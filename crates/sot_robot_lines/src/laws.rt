@@ -1,8 +1,0 @@
-//! Laws of lines of a robot, proved of every program.
-
-ghost use Rattle.sot_robot_lines.specs.Shown.{SaidOnce};
-
-/// A line says one thing at most.
-pub fn lines_say_once()
-    ensures { SaidOnce }
-{}

@@ -1,6 +1,0 @@
-use Rattle.std.proofs.Common.{◌≡◌}
-use Rattle.sot_turn.specs.Passes.{lock_of, pass_lock}
-use Rattle.sot_test_lowest.proofs.tests.turn.add_many.Given as goal
-
-abbrev pub invariant-loop-number : goal.invariant-loop-number
-invariant-loop-number g l = pass_lock l.pass ≡ lock_of l.turn
