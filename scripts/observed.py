@@ -13,6 +13,7 @@ import missiontext
 from meaning import LEAST, MOST, Meaning, Trap, covers
 
 HORIZON, LONGEST, TOO_LONG = 100000, 30, 65536
+ASIDES = ('draft', 'input')
 NAME = r'[A-Za-z_][A-Za-z0-9_]*'
 NUMBER = r'(?:0|-?[1-9][0-9]*)'
 NUMBERS = rf'{NUMBER}(?:,{NUMBER})*'
@@ -126,7 +127,27 @@ class Guard:
     # --- what is heard ------------------------------------------------------------------------------------------------
 
     def hear(self, line):
-        """The lines that a line of the robot is answered with."""
+        """The lines that a line of the robot is answered with. Once the talk has begun no line is at fault."""
+        try:
+            return self.take(line)
+        except Misheard as why:
+            if self.turn == 'start':
+                raise
+            return self.ignore(line, why) if line.startswith(ASIDES) else self.go_blind(line, why)
+
+    def ignore(self, line, why):
+        """A draft or an input that is not taken changes nothing."""
+        return [f'{self.time} ignored {line[:5]} {why}']
+
+    def go_blind(self, line, why):
+        """Another line is not taken: a tick that was to come passes unseen, and the models are trusted no more."""
+        if self.turn == 'tick':
+            self.pass_tick(self.points)
+        self.withdraw()
+        return [f'{self.time} blind {why}'] + (self.go() if line == 'go' else [])
+
+    def take(self, line):
+        """The answer to a line that is taken."""
         said = said_of(self.meaning, line)
         if said is None:
             raise Misheard('NotALine')
@@ -182,15 +203,24 @@ class Guard:
         if is_large(number for point in points for number in point):
             raise Misheard('OutsideType')
         outside = self.first_outside(points) if self.trusted else None
-        self.time, self.points, self.turn = self.time + 1, points, 'instant'
-        self.events += 1
-        self.note_due()
+        self.pass_tick(points)
         if outside is None:
             return []
         plant, state, (lo, hi), number = outside
-        self.trusted, self.outside = False, self.time
-        self.modes = {module.name: 'sc' for module in self.meaning.modules}
+        self.withdraw()
+        self.outside = self.time
         return [f'{self.time} outside plant {plant} state {state} [{lo}..{hi}] observed {number}']
+
+    def pass_tick(self, points):
+        self.time, self.points, self.turn = self.time + 1, points, 'instant'
+        self.events += 1
+        self.note_due()
+
+    def withdraw(self):
+        """The models are trusted no more, and the safe nodes are asked at once, due or not."""
+        self.trusted = False
+        self.modes = {module.name: 'sc' for module in self.meaning.modules}
+        self.left.update(module.sc for module in self.meaning.modules)
 
     # --- what happens -------------------------------------------------------------------------------------------------
 
@@ -296,8 +326,7 @@ def parts_of(text):
     lines = text[found.end():].split('\n')
     if lines[-1] == '':
         lines.pop()
-    # a line that is too long says nothing, as the empty one
-    return text[:found.start()], ['' if len(line) >= TOO_LONG else line.removesuffix('\r') for line in lines]
+    return text[:found.start()], [line if len(line) >= TOO_LONG else line.removesuffix('\r') for line in lines]
 
 
 def guard_of(mission):
@@ -317,6 +346,8 @@ def answers(mission, lines):
     try:
         guard = Guard(meaning, jitter)
         for number, line in enumerate(lines, 1):
+            if len(line) >= TOO_LONG:
+                raise Misheard('NotALine')
             said += guard.hear(line)
             if guard.is_over():
                 break

@@ -13,7 +13,8 @@ use Rattle.sot_law_observed_runs.proofs.Main.{observed_runs}
 use Rattle.sot_guard.specs.declared.told.Told.{Told}
 use Rattle.sot_guard.specs.declared.told.Told.TheVariants.{Decided, Fired}
 use Rattle.sot_guard.specs.declared.outside.Outside.{Outside}
-use Rattle.sot_guard.specs.Changes.{GoesOn, Withdraws}
+use Rattle.sot_guard.specs.Guarding.{Guarding}
+use Rattle.sot_guard.specs.Changes.{GoesOn, Withdraws, AsksSafeNodes}
 use Rattle.sot_guard.specs.Instants.{Happens, AreTold}
 use Rattle.sot_guard.specs.Hearing.{Hearing, program_of, jitter_of}
 use Rattle.sot_guard.specs.Conversations.{Heard, Input, Draft, Go, Points, Hears, HearsAll, last_of, TrustedSessionsAreObserved}
@@ -61,16 +62,20 @@ record Goes (h k : Hearing) : Type 0 where
   pub trusted : h.guarding.trusted ≡ true
   pub accepted : k.guarding.accepted ≡ h.guarding.accepted
 
-judged_goes : (h k : Hearing) (points : List (List ℤ)) (o : Option Outside) → k.guarding.trusted ≡ true → k.guarding.accepted ≡ h.guarding.accepted
-    → MatchOption o (GoesOn h.guarding k.guarding) (λ x. Withdraws h.guarding k.guarding points x) → Goes h k
-judged_goes h k points None on same g =
+judged_goes : (h k : Hearing) (moved : Guarding) (points : List (List ℤ)) (o : Option Outside) → k.guarding.trusted ≡ true
+    → k.guarding.accepted ≡ h.guarding.accepted
+    → MatchOption o (GoesOn h.guarding moved) (λ x. Withdraws h.guarding moved points x)
+    → MatchOption o (k.guarding ≡ moved) (λ x. AsksSafeNodes moved k.guarding) → Goes h k
+judged_goes h k moved points None on same goes asked =
+    let g = subst (GoesOn h.guarding) (sym asked) goes in
     let before = sym g.trusted ∙ on in
     record {
       path = one (program_of h) (jitter_of h) h.guarding.at k.guarding.at (steps.Tick []) (g.observed before);
       trusted = before;
       accepted = same;
     }
-judged_goes h k points (Some o) on same w = absurd (false≢true (sym w.is ∙ on))
+judged_goes h k moved points (Some o) on same w asked =
+    absurd (false≢true (sym w.is ∙ sym (ap (λ (x : Guarding). x.trusted) asked.rest) ∙ on))
 
 hears_goes : (h k : Hearing) (x : Heard) → Hears h x k → k.guarding.trusted ≡ true → Goes h k
 hears_goes h k (Input topic value) t on = record {
@@ -91,7 +96,7 @@ hears_goes h k Go t on =
       trusted = before;
       accepted = t.accepted;
     }
-hears_goes h k (Points points) t on = judged_goes h k points t.0 on t.1.accepted t.1.judged
+hears_goes h k (Points points) t on = judged_goes h k t.1.moved points t.0 on t.1.accepted t.1.judged t.1.asked
 
 all_goes : (h k : Hearing) (xs : List Heard) → HearsAll h xs k → k.guarding.trusted ≡ true → Goes h k
 all_goes h k [] same on = record {

@@ -62,6 +62,23 @@ pub record MovesTo (p : Tables) (next : List (List ℤ)) (C D : Configuration) :
   pub locals : D.locals ≡ C.locals
   pub points : D.points ≡ next
 
+-- the models are trusted no more: every module is in mode Sc, and nothing else changes
+pub record Distrusts (old new : Guarding) : Type 0 where
+  pub accepted : new.accepted ≡ old.accepted
+  pub is : new.trusted ≡ false
+  pub modes : (m : ℕ) → mode_of new.at m ≡ Sc
+  pub rest : new.at ≡ record old.at { modes = new.at.modes }
+
+-- a node is the safe one of some module
+abbrev pub IsSafeNode : List ModuleInfo → ℕ → Type 0
+IsSafeNode modules n = (m : ℕ) × (a : ModuleInfo) × At modules m a × (a.sc ≡ n)
+
+-- the safe node of each module is left to fire, whether it is due or not
+pub record AsksSafeNodes (old new : Guarding) : Type 0 where
+  pub left : (n : ℕ) → (is_left new.at n ≡ true)
+      ↔ ((is_left old.at n ≡ true) ⊎ IsSafeNode old.accepted.program.modules n)
+  pub rest : new ≡ record old { at = record old.at { left = new.at.left } }
+
 -- no plant is told to be outside: while the models are trusted, the tick is an observed one
 pub record GoesOn (old new : Guarding) : Type 0 where
   pub trusted : new.trusted ≡ old.trusted

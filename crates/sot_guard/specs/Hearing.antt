@@ -13,7 +13,7 @@ use Rattle.sot_world.specs.Calendar.{NothingLeft}
 use Rattle.sot_guard.specs.declared.outside.Outside.{Outside}
 use Rattle.sot_guard.specs.declared.told.Told.{Told}
 use Rattle.sot_guard.specs.Guarding.{Guarding}
-use Rattle.sot_guard.specs.Changes.{MovesTo, GoesOn, Withdraws}
+use Rattle.sot_guard.specs.Changes.{MovesTo, GoesOn, Withdraws, Distrusts, AsksSafeNodes}
 use Rattle.sot_guard.specs.Instants.{AreTold, AreInOrder}
 use Rattle.sot_guard.specs.declared.turn.SessionEvent.{SessionEvent}
 use Rattle.sot_guard.specs.declared.turn.SessionEvent.TheVariants.{Instant, Tick}
@@ -100,15 +100,40 @@ pub record GoesThrough (h k : Hearing) : Type 0 where
   pub trusted : k.guarding.trusted ≡ h.guarding.trusted
   pub no_drafts : NoDrafts k
 
--- after a tick the plants are at these points, and the first one outside its model is told
+-- after a tick the plants are at these points, and the first one outside its model is told; where
+-- one is, the safe nodes are asked at once
 pub record TakesTick (h : Hearing) (points : List (List ℤ)) (outside : Option Outside) (k : Hearing)
     : Type 0 where
   pub turn : h.turn ≡ Tick
   pub time : h.guarding.at.time < 100000
   pub points_are : ArePoints (program_of h) points
-  pub moves : MovesTo (program_of h) points h.guarding.at k.guarding.at
-  pub judged : MatchOption outside (GoesOn h.guarding k.guarding)
-      (λ o. Withdraws h.guarding k.guarding points o)
+  pub moved : Guarding
+  pub moves : MovesTo (program_of h) points h.guarding.at moved.at
+  pub judged : MatchOption outside (GoesOn h.guarding moved)
+      (λ o. Withdraws h.guarding moved points o)
+  pub asked : MatchOption outside (k.guarding ≡ moved) (λ o. AsksSafeNodes moved k.guarding)
+  pub accepted : k.guarding.accepted ≡ h.guarding.accepted
+  pub rest : k ≡ record h { guarding = k.guarding; turn = Instant }
+
+-- a guard trusts its models no more, and asks the safe nodes at once
+pub record FallsBack (old new : Guarding) : Type 0 where
+  pub between : Guarding
+  pub distrusts : Distrusts old between
+  pub asks : AsksSafeNodes between new
+
+-- the models are trusted no more
+pub record IsWithdrawn (h k : Hearing) : Type 0 where
+  pub falls : FallsBack h.guarding k.guarding
+  pub rest : k ≡ record h { guarding = k.guarding }
+
+-- a tick passes after which no plant is observed: each is taken where it was observed last, and the
+-- models are trusted no more
+pub record PassesUnseen (h k : Hearing) : Type 0 where
+  pub turn : h.turn ≡ Tick
+  pub time : h.guarding.at.time < 100000
+  pub moved : Guarding
+  pub moves : MovesTo (program_of h) h.guarding.at.points h.guarding.at moved.at
+  pub falls : FallsBack moved k.guarding
   pub accepted : k.guarding.accepted ≡ h.guarding.accepted
   pub rest : k ≡ record h { guarding = k.guarding; turn = Instant }
 

@@ -4,6 +4,7 @@ ghost use Rattle.std.specs.Prelude.{◌≡◌, ℕ, ◌<◌, ◌≤◌, ◌⊎�
 ghost use Rattle.std.specs.Prelude.{slice_index_or};
 ghost use Rattle.sot_lists.specs.Places.{At};
 ghost use Rattle.sot_calendar.specs.Due.{IsDue};
+ghost use Rattle.sot_guard.specs.Changes.{IsSafeNode};
 ghost use Rattle.sot_lang.specs.declared.tables.NodeInfo.{NodeInfo as Node};
 ghost use Rattle.sot_lang.specs.declared.tables.ModuleInfo.{ModuleInfo as Module};
 
@@ -45,5 +46,17 @@ pub(crate) fn leave_decisions(modules: &[ModuleInfo], time: u32, left: &mut [boo
         if due(info.period, info.offset, time) {
             left[m] = true;
         }
+    }
+}
+
+/// The safe node of each module is left to fire, beside what is left already.
+pub(crate) fn leave_safe_nodes(modules: &[ModuleInfo], left: &mut [bool])
+    requires inside { (m : ℕ) (a : Module) → At modules.now m a → a.sc < length left.old }
+    ensures left { (n : ℕ) → (slice_index_or left.new n false ≡ true)
+        ↔ ((slice_index_or left.old n false ≡ true) ⊎ IsSafeNode modules.now n) }
+    ensures size { length left.new ≡ length left.old }
+{
+    for m in 0..modules.len() {
+        left[modules[m].sc as usize] = true;
     }
 }

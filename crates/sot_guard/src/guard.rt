@@ -6,6 +6,7 @@ ghost use Rattle.sot_world.specs.Configurations.{point_of, IsOpening, IsSafer};
 ghost use Rattle.sot_world.specs.Opens.{AreStarts, StartInside, IsFirstOutside, IfNotSafer};
 ghost use Rattle.sot_guard.specs.Guarding.{IsGuarding};
 
+use crate::put::put_points;
 use sot_box::Point;
 use sot_code::Locals;
 use sot_lang::Typed;
@@ -170,6 +171,21 @@ impl<'a> Guard<'a> {
         ensures { result ≡ number_of self.now.at scalar }
     {
         self.scalars[scalar as usize]
+    }
+
+    /// The present numbers of all scalars, mantissas at their scales.
+    pub fn scalars(&self) -> &[i64]
+        ensures { result.now ≡ self.now.at.scalars }
+    {
+        &self.scalars
+    }
+
+    /// Writes the points at which the plants were observed last over as many others.
+    pub fn put_states(&self, points: &mut [Point])
+        requires { length points.old ≡ length self.now.accepted.program.plants }
+        ensures { points.new ≡ self.now.at.points }
+    {
+        put_points(&self.points, points);
     }
 
     /// Whether a node is still to fire.

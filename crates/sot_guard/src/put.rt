@@ -24,8 +24,8 @@ pub(crate) fn is_still(trusted: bool, inside: bool) -> bool
     if inside { trusted } else { false }
 }
 
-// Every mode is Sc.
-fn put_safe(modes: &mut [Mode])
+/// Every mode is Sc.
+pub(crate) fn put_safe(modes: &mut [Mode])
     ensures safe { (m : ℕ) → slice_index_or modes.new m Sc ≡ Sc }
     ensures size { length modes.new ≡ length modes.old }
 {

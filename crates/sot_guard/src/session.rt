@@ -1,12 +1,13 @@
 //! A session, instant by instant.
 
-ghost use Rattle.std.specs.Prelude.{◌≡◌, ℕ, [], true, IfOk, IfErr, MatchResult};
+ghost use Rattle.std.specs.Prelude.{◌≡◌, ◌<◌, ℕ, [], true, length, IfOk, IfErr, MatchResult};
 ghost use Rattle.sot_world.specs.Configurations.{IsOpening, IsSafer};
 ghost use Rattle.sot_world.specs.Opens.{AreStarts, IsFirstOutside, IfNotSafer};
 ghost use Rattle.sot_guard.specs.Hearing.{TakesInput, TakesDraft, GoesThrough, TakesTick};
 ghost use Rattle.sot_guard.specs.Hearing.{RefusesInput, RefusesDraft, RefusesGo};
-ghost use Rattle.sot_guard.specs.Hearing.{RefusesTick, NoDrafts, IsHearing};
-ghost use Rattle.sot_guard.specs.declared.turn.SessionEvent.TheVariants.{Instant};
+ghost use Rattle.sot_guard.specs.Hearing.{RefusesTick, NoDrafts, IsHearing, IsWithdrawn};
+ghost use Rattle.sot_guard.specs.Hearing.{PassesUnseen, program_of};
+ghost use Rattle.sot_guard.specs.declared.turn.SessionEvent.TheVariants.{Instant, Tick};
 
 use crate::blank::{blank_drafts, clear_drafts, clear_flags, no_flags};
 use crate::guard::Guard;
@@ -197,7 +198,8 @@ impl<'a> Session<'a> {
     }
 
     /// The plants are at these points after the tick. The first state variable outside the least
-    /// interval of its next value is handed out, at most once in a session. `OutOfTurn` before the
+    /// interval of its next value is handed out, at most once in a session, and then the safe node
+    /// of each module is left to fire, whether it is due or not. `OutOfTurn` before the
     /// instant was gone through; `TooFar` at time 100,000; `NotALine` where there is not one point
     /// for each plant, of its width.
     pub fn tick(&mut self, points: &[Point]) -> Result<Option<Outside>, Misheard>
@@ -217,6 +219,36 @@ impl<'a> Session<'a> {
         }
         let outside = self.guard.observe(points);
         self.turn = SessionEvent::Instant;
+        if outside.is_some() {
+            self.guard.ask_safe_nodes();
+        }
         Ok(outside)
+    }
+
+    /// In an instant: the models are trusted no more. Every module is in mode Sc from now on, and
+    /// its safe node is left to fire, whether it is due or not.
+    pub fn withdraw(&mut self)
+        requires { self.old.turn ≡ Instant }
+        ensures { IsWithdrawn self.old self.new }
+    {
+        self.guard.withdraw();
+        self.guard.ask_safe_nodes();
+    }
+
+    /// A tick passes after which no plant is observed: each is taken where it was observed last,
+    /// and the models are trusted no more, as after [`Session::withdraw`]. The points are room for
+    /// as many as there are plants.
+    pub fn pass_unseen(&mut self, room: &mut [Point])
+        requires turn { self.old.turn ≡ Tick }
+        requires time { self.old.guarding.at.time < 100000 }
+        requires room { length room.old ≡ length (program_of self.old).plants }
+        ensures passes { PassesUnseen self.old self.new }
+        ensures room { length room.new ≡ length room.old }
+    {
+        self.guard.put_states(room);
+        let _ = self.guard.observe(room);
+        self.guard.withdraw();
+        self.guard.ask_safe_nodes();
+        self.turn = SessionEvent::Instant;
     }
 }

@@ -5,16 +5,17 @@ use Rattle.sot_ports.specs.Faults.{Rose}
 use Rattle.sot_trace.specs.Traces.{text_of}
 use Rattle.sot_trace_lines.specs.LentLines.{lent_lines}
 use Rattle.sot_guard.specs.declared.misheard.Misheard.{Misheard}
-use Rattle.sot_guard_protocol.specs.Talks.{Talking, Mishears, IsOver}
+use Rattle.sot_guard_protocol.specs.Talks.{Talking, IsOver}
 use Rattle.sot_guard_input.specs.Reading.{IsSettled, ends_line}
 use Rattle.sot_guard_input.proofs.Pieces.{reads_trans}
 use Rattle.sot_guard_program.specs.declared.halt.Stop.{Stop}
 use Rattle.sot_guard_program.specs.declared.halt.Stop.TheVariants as stops
 use Rattle.sot_guard_program.specs.declared.halt.Halt.{Halt}
-use Rattle.sot_guard_program.specs.Lines.{misheard_word, at_line}
+use Rattle.sot_guard_program.specs.Lines.{at_line}
+use Rattle.sot_guard_protocol.specs.Answers.{misheard_word}
 use Rattle.sot_guard_program.specs.Conversations.{Answers}
 use Rattle.sot_guard_program.specs.Moments.{Ears, Mouth, Passes, Utters, Ended}
-use Rattle.sot_guard_program.specs.Says.{IsAtEnds, IsAtFault, SaysTalk, end_status}
+use Rattle.sot_guard_program.specs.Says.{IsAtEnds, IsAtFault, NoFault, SaysTalk, end_status}
 use Rattle.sot_guard_program.specs.Hearing.{HearsAll, HaltsAll, StopsNext}
 use Rattle.sot_guard_program.specs.Tellings.{Tells, TellsStop, TellsEnd, IsQuiet, last_text}
 use Rattle.sot_guard_program.specs.Beginning.{SaysFrom}
@@ -84,7 +85,7 @@ module _ (t : Talking) (before : ℕ) (e f : Ears) (x y : Mouth) (status : ℕ) 
 
     -- a line at fault
     at_fault : (why : Misheard) (more : List ℕ) → Passes middle f more
-        → IsAtFault (Mishears last) (lent_lines (passed ++ more)) (lent_lines passed) f why → Utters z z' []
+        → IsAtFault NoFault (lent_lines (passed ++ more)) (lent_lines passed) f why → Utters z z' []
         → Tells 3 (at_line line_number (misheard_word why)) z' y status → Goal
     at_fault why more passes_more fault nothing told =
         ended_told (SaysFrom e.ended (SaysTalk t before)) e f x y (passed ++ more) (text ++ at_line line_number (misheard_word why)) 3 status

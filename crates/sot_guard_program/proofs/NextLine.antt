@@ -94,7 +94,7 @@ module _ (left left_after : Option (List ℕ)) (faults faults_after : ℕ) (e m 
 
       -- it is not heard, or not answered
       pub next_stopped : (stop : Stop) → PassesTaken t u len m f x y (Err stop) → StopsNext t before after x y stop
-      next_stopped (stops.Misheard why) p = (inl (line_bytes, p.line, line_passed, p.is, p.answers.0), p.answers.1)
+      next_stopped (stops.Misheard why) p = absurd p.answers
       next_stopped stops.Missing p = absurd p.answers
       next_stopped stops.Source p = absurd p.answers
       next_stopped stops.Sink p = (line_bytes, p.line, u, line_passed, p.is, p.answers)

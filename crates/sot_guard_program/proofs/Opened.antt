@@ -11,7 +11,8 @@ use Rattle.sot_guard_input.proofs.Pieces.{reads_trans}
 use Rattle.sot_guard_program.specs.declared.halt.Stop.{Stop}
 use Rattle.sot_guard_program.specs.declared.halt.Stop.TheVariants as stops
 use Rattle.sot_guard_program.specs.declared.halt.Halt.{Halt}
-use Rattle.sot_guard_program.specs.Lines.{misheard_word, missing_word, at_line}
+use Rattle.sot_guard_program.specs.Lines.{missing_word, at_line}
+use Rattle.sot_guard_protocol.specs.Answers.{misheard_word}
 use Rattle.sot_guard_program.specs.Conversations.{unopened, Starts}
 use Rattle.sot_guard_program.specs.Moments.{Ears, Mouth, Passes, Ended}
 use Rattle.sot_guard_program.specs.Says.{IsAtFault, IsOutside, SaysTalk, SaysRobot}

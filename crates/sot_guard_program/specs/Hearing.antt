@@ -8,7 +8,7 @@ use Rattle.sot_trace_lines.specs.LentLines.{lent_lines}
 use Rattle.sot_guard.specs.declared.misheard.Misheard.{Misheard}
 use Rattle.sot_guard.specs.declared.misheard.Misheard.TheVariants.{NotALine}
 use Rattle.sot_guard_protocol.specs.Openings.{Starting, HasAll, TakesStart, IsNoStart}
-use Rattle.sot_guard_protocol.specs.Talks.{Talking, Mishears, IsOver}
+use Rattle.sot_guard_protocol.specs.Talks.{Talking, IsOver}
 use Rattle.sot_guard_protocol.specs.TalkLaws.{HearsLine}
 use Rattle.sot_guard_input.specs.declared.ear.Ear.{Ear}
 use Rattle.sot_guard_input.specs.Reading.{Reads, IsSettled, IsLine, ends_line}
@@ -17,7 +17,7 @@ use Rattle.sot_guard_program.specs.declared.halt.Stop.TheVariants as stops
 use Rattle.sot_guard_program.specs.declared.halt.Halt.{Halt}
 use Rattle.sot_guard_program.specs.Conversations.{Starts, Answers}
 use Rattle.sot_guard_program.specs.Moments.{Ears, Mouth, Passes, Utters}
-use Rattle.sot_guard_program.specs.Says.{IsAtEnds, IsLong}
+use Rattle.sot_guard_program.specs.Says.{IsAtEnds, IsLong, NoFault}
 
 -- the bytes of one line
 abbrev pub IsOneLine : List ℕ → List ℕ → Type 0
@@ -113,19 +113,18 @@ abbrev pub AnswersFirsts : Starting → Starting → Ears → Ears → Result (U
 AnswersFirsts a b e f (Ok ok) = HearsFirsts a b e f × HasAll b
 AnswersFirsts a b e f (Err halt) = HaltsFirsts a e f halt
 
--- a line is heard, and answered; or it is not heard, and nothing is written; or the sink has failed
--- in its answer
+-- a line is heard, and answered; or the sink has failed in its answer
 abbrev pub AnswersLine : Talking → List ℕ → Talking → Mouth → Mouth → Result (Unit {0}) Stop
     → Type 0
 AnswersLine t line u x y (Ok ok) =
     (h : HearsLine t line u) × Utters x y (text_of h.answer)
-AnswersLine t line u x y (Err (stops.Misheard why)) = Mishears t line why × Utters x y []
+AnswersLine t line u x y (Err (stops.Misheard why)) = ⊥
 AnswersLine t line u x y (Err stops.Missing) = ⊥
 AnswersLine t line u x y (Err stops.Source) = ⊥
 AnswersLine t line u x y (Err stops.Sink) =
     (h : HearsLine t line u) × CutsOff x y (text_of h.answer)
 
--- the line of the first so many bytes that wait is heard, and answered; or it is not, and why
+-- the line of the first so many bytes that wait is heard, and answered; or the sink has failed
 pub record PassesTaken (t u : Talking) (len : ℕ) (e f : Ear) (x y : Mouth)
     (result : Result (Unit {0}) Stop) : Type 0 where
   pub line : List ℕ
@@ -154,9 +153,9 @@ abbrev pub HearsLast : Talking → Talking → Ears → Ears → Mouth → Mouth
 HearsLast t u e f x y =
     IsAtEnds f × (HearsOne t u e f x y ⊎ ((u ≡ t) × Passes e f [] × (y ≡ x)))
 
--- the next line is not heard, or not answered, and why
+-- the next line is too long, or not answered, and why
 abbrev pub StopsNext : Talking → Ears → Ears → Mouth → Mouth → Stop → Type 0
-StopsNext t e f x y (stops.Misheard why) = Misses (Mishears t) e f why × Utters x y []
+StopsNext t e f x y (stops.Misheard why) = Misses NoFault e f why × Utters x y []
 StopsNext t e f x y stops.Missing = ⊥
 StopsNext t e f x y stops.Source = FailsToRead e f × (y ≡ x)
 StopsNext t e f x y stops.Sink =

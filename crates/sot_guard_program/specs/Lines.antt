@@ -1,19 +1,9 @@
 -- The texts that are always the same, and the line of a line at fault.
 use Rattle.std.specs.Prelude.{ℕ, List, ◌++◌, codes}
 use Rattle.sot_trace.specs.Numbers.{numeral}
-use Rattle.sot_guard.specs.declared.misheard.Misheard.{Misheard}
-use Rattle.sot_guard.specs.declared.misheard.Misheard.TheVariants as misheard
 
 abbrev pub usage_text : List ℕ
 usage_text = codes "usage: soter_guard\n"
-
-abbrev pub misheard_word : Misheard → List ℕ
-misheard_word misheard.OutOfTurn = codes "OutOfTurn"
-misheard_word misheard.NotALine = codes "NotALine"
-misheard_word misheard.NotDue = codes "NotDue"
-misheard_word misheard.AlreadyDrafted = codes "AlreadyDrafted"
-misheard_word misheard.OutsideType = codes "OutsideType"
-misheard_word misheard.TooFar = codes "TooFar"
 
 -- the lines end before each plant was observed
 abbrev pub missing_word : List ℕ

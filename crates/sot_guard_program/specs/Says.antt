@@ -29,9 +29,10 @@ use Rattle.sot_guard.specs.declared.misheard.Misheard.{Misheard}
 use Rattle.sot_guard.specs.declared.misheard.Misheard.TheVariants.{NotALine}
 use Rattle.sot_guard_lines.specs.Lines.{end_line}
 use Rattle.sot_guard_protocol.specs.Openings.{Starting, HasAll, IsNoStart}
-use Rattle.sot_guard_protocol.specs.Talks.{Talking, time_of, Mishears, IsOver}
+use Rattle.sot_guard_protocol.specs.Talks.{Talking, time_of, IsOver}
 use Rattle.sot_guard_input.specs.Fronts.{HasNone, IsFront, IsMark, IsTooLong}
-use Rattle.sot_guard_program.specs.Lines.{usage_text, misheard_word, missing_word, at_line}
+use Rattle.sot_guard_program.specs.Lines.{usage_text, missing_word, at_line}
+use Rattle.sot_guard_protocol.specs.Answers.{misheard_word}
 use Rattle.sot_guard_program.specs.Conversations.{unopened, Starts, Begins, Answers, StaysSafe}
 use Rattle.sot_guard_program.specs.Moments.{Ears}
 
@@ -42,6 +43,10 @@ IsAtEnds b = (b.ended ≡ true) × (b.waiting ≡ []) × IsAtEnd b.left
 -- a line is longer than a line may be: so many bytes wait, and no line end among them
 abbrev pub IsLong : Ears → Type 0
 IsLong b = (has_end b.waiting ≡ false) × (length b.waiting ≡ longest)
+
+-- no line of a talk is at fault: each is taken, ignored, or ends the trust in the models
+abbrev pub NoFault : List ℕ → Misheard → Type 0
+NoFault line why = ⊥
 
 -- what is spoken are lines that were heard, and then a line at fault: this holds of it, or it is
 -- longer than a line may be
@@ -65,7 +70,7 @@ pub record Closes (t : Talking) (before : ℕ) (b : Ears) (said : ℕ) (spoken :
   pub said_is : said ≡ end_status last
   pub text_is : text ≡ answers ++ text_of (end_line (time_of last) last.events ∷ [])
 
--- the first line at fault, and why; lines are numbered behind so many others
+-- a line that is longer than a line may be; lines are numbered behind so many others
 pub record Mistakes (t : Talking) (before : ℕ) (b : Ears) (said : ℕ) (spoken : List (List ℕ))
     (text : List ℕ) : Type 0 where
   pub heard : List (List ℕ)
@@ -73,7 +78,7 @@ pub record Mistakes (t : Talking) (before : ℕ) (b : Ears) (said : ℕ) (spoken
   pub answers : List ℕ
   pub why : Misheard
   pub answered : Answers t heard last answers
-  pub fault : IsAtFault (Mishears last) spoken heard b why
+  pub fault : IsAtFault NoFault spoken heard b why
   pub said_is : said ≡ 3
   pub text_is : text ≡ answers ++ at_line (suc (before + length heard)) (misheard_word why)
 

@@ -11,7 +11,8 @@ use Rattle.sot_guard_protocol.specs.Talks.{Talking, time_of}
 use Rattle.sot_cli.specs.declared.answer.Answer.{Answer}
 use Rattle.sot_guard_program.specs.declared.halt.Stop.{Stop}
 use Rattle.sot_guard_program.specs.declared.halt.Stop.TheVariants as stops
-use Rattle.sot_guard_program.specs.Lines.{misheard_word, missing_word, at_line}
+use Rattle.sot_guard_program.specs.Lines.{missing_word, at_line}
+use Rattle.sot_guard_protocol.specs.Answers.{misheard_word}
 use Rattle.sot_guard_program.specs.Moments.{Mouth}
 use Rattle.sot_guard_program.specs.Says.{end_status}
 

@@ -1,13 +1,15 @@
 //! Why nothing more is heard of a robot, and what is said of it.
 
 ghost use Rattle.std.specs.Prelude.{◌≡◌};
-ghost use Rattle.sot_guard_program.specs.Lines.{misheard_word, at_line};
+ghost use Rattle.sot_guard_program.specs.Lines.{at_line};
+ghost use Rattle.sot_guard_protocol.specs.Answers.{misheard_word};
 ghost use Rattle.sot_guard_program.specs.Moments.{mouth};
 ghost use Rattle.sot_guard_program.specs.Tellings.{Tells, TellsStop};
 
 use crate::tell::tell_put;
 use sot_cli::Status;
 use sot_guard::Misheard;
+use sot_guard_protocol::misheard_word;
 use sot_ports::Sink;
 use sot_text_output::{Out, Spool};
 use sot_trace::put_count;
@@ -30,20 +32,6 @@ pub(crate) enum Stop {
 pub(crate) struct Halt {
     pub line: usize,
     pub stop: Stop,
-}
-
-/// The name of a line's fault.
-pub(crate) fn misheard_word(why: Misheard) -> &'static str
-    ensures { result.now ≡ misheard_word why }
-{
-    match why {
-        Misheard::OutOfTurn => "OutOfTurn",
-        Misheard::NotALine => "NotALine",
-        Misheard::NotDue => "NotDue",
-        Misheard::AlreadyDrafted => "AlreadyDrafted",
-        Misheard::OutsideType => "OutsideType",
-        Misheard::TooFar => "TooFar",
-    }
 }
 
 fn put_fault<O: Out>(out: &mut O, line: usize, word: &str)

@@ -2,6 +2,7 @@
 
 ghost use Rattle.std.specs.Prelude.{◌≡◌, false};
 ghost use Rattle.sot_guard_input.specs.Reading.{IsLine};
+ghost use Rattle.sot_guard_protocol.specs.Talks.{IsOver};
 ghost use Rattle.sot_guard_program.specs.Moments.{ears, mouth};
 ghost use Rattle.sot_guard_program.specs.Hearing.{AnswersLine, PassesTaken};
 ghost use Rattle.sot_guard_program.specs.Hearing.{AnswersNext, AnswersAll};
@@ -24,25 +25,23 @@ pub(crate) struct Speaker<'a> {
     pub waiting: Vec<u8>,
 }
 
-// Hears a line, and writes its answer through these bytes. Nothing is written of a line that is not
-// heard.
+// Hears a line, and writes its answer through these bytes.
 fn answer<K: Sink>(
     talk: &mut Talk<'_>,
     line: &[u8],
     waiting: &mut Vec<u8>,
     sink: &mut K,
 ) -> Result<(), Stop>
+    requires going { IsOver talk.old → ⊥ }
     ensures { AnswersLine talk.old line.now talk.new (mouth (K.held sink.old) (K.faults sink.old))
         (mouth (K.held sink.new) (K.faults sink.new)) result }
 {
     waiting.clear();
     let mut spool = Spool::new(waiting, sink);
-    match talk.hear(line, &mut spool) {
-        Ok(_) => match spool.end() {
-            Ok(()) => Ok(()),
-            Err(_) => Err(Stop::Sink),
-        },
-        Err(why) => Err(Stop::Misheard(why)),
+    let _ = talk.hear(line, &mut spool);
+    match spool.end() {
+        Ok(()) => Ok(()),
+        Err(_) => Err(Stop::Sink),
     }
 }
 
@@ -68,7 +67,8 @@ fn tell_end<K: Sink>(talk: &Talk<'_>, waiting: &mut Vec<u8>, sink: &mut K) -> St
 impl<'a> Speaker<'a> {
     // The first line that waits is heard, answered and passed.
     fn take<K: Sink>(&mut self, ear: &mut Ear, len: usize, sink: &mut K) -> Result<(), Stop>
-        requires { (left : _) × IsLine len left ear.old }
+        requires line { (left : _) × IsLine len left ear.old }
+        requires going { IsOver self.old.talk → ⊥ }
         ensures { PassesTaken self.old.talk self.new.talk len ear.old ear.new
             (mouth (K.held sink.old) (K.faults sink.old))
             (mouth (K.held sink.new) (K.faults sink.new)) result }
@@ -88,6 +88,7 @@ impl<'a> Speaker<'a> {
         sink: &mut K,
     ) -> Result<bool, Stop>
         requires open { ear.old.ended ≡ false }
+        requires going { IsOver self.old.talk → ⊥ }
         ensures { AnswersNext self.old.talk self.new.talk
             (ears (S.left source.old) (S.faults source.old) ear.old)
             (ears (S.left source.new) (S.faults source.new) ear.new)

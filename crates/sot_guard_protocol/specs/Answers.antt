@@ -1,15 +1,21 @@
 -- The lines that a robot is answered with.
 use Rattle.std.specs.Prelude.{ℕ, ◌+◌, ◌<◌, ℤ, List, [], ◌∷◌, ◌++◌, Option, Some, None, map, length}
+use Rattle.std.specs.Prelude.{codes}
 use Rattle.sot_lists.specs.Places.{At}
 use Rattle.sot_lang.specs.declared.tables.PlantInfo.{PlantInfo}
 use Rattle.sot_lang.specs.Tables.{Tables}
 use Rattle.sot_world.specs.declared.outcome.Firing.{Firing}
 use Rattle.sot_world.specs.HistoryEntry.{FireAt, DecideAt}
 use Rattle.sot_trace.specs.Lines.{line_of}
+use Rattle.sot_trace.specs.Numbers.{numeral}
+use Rattle.sot_guard.specs.declared.misheard.Misheard.{Misheard}
+use Rattle.sot_guard.specs.declared.misheard.Misheard.TheVariants as misheard
 use Rattle.sot_guard.specs.declared.outside.Outside.{Outside}
 use Rattle.sot_guard.specs.declared.told.Told.{Told}
 use Rattle.sot_guard.specs.declared.told.Told.TheVariants.{Decided, Fired}
 use Rattle.sot_guard_lines.specs.Lines.{hold_line, ready_line, outside_line}
+use Rattle.sot_guard_protocol.specs.declared.aside.Aside.{Aside}
+use Rattle.sot_guard_protocol.specs.declared.aside.Aside.TheVariants as aside
 
 -- what happened at a time, as a trace tells it
 abbrev pub told_line : Tables → ℕ → Told → List ℕ
@@ -37,3 +43,26 @@ abbrev pub outside_lines : Tables → ℕ → Option Outside → List (List ℕ)
 outside_lines p time None = []
 outside_lines p time (Some o) =
     outside_line p time o.plant o.state o.bounds o.value ∷ []
+
+-- why a line is not taken
+abbrev pub misheard_word : Misheard → List ℕ
+misheard_word misheard.OutOfTurn = codes "OutOfTurn"
+misheard_word misheard.NotALine = codes "NotALine"
+misheard_word misheard.NotDue = codes "NotDue"
+misheard_word misheard.AlreadyDrafted = codes "AlreadyDrafted"
+misheard_word misheard.OutsideType = codes "OutsideType"
+misheard_word misheard.TooFar = codes "TooFar"
+
+abbrev pub aside_word : Aside → List ℕ
+aside_word aside.Draft = codes "draft"
+aside_word aside.Input = codes "input"
+
+-- `T ignored draft KIND` and `T ignored input KIND`: a draft or an input that is not taken
+abbrev pub ignored_line : ℕ → Aside → Misheard → List ℕ
+ignored_line time a why =
+    numeral time
+    ++ (codes " ignored " ++ (aside_word a ++ (codes " " ++ misheard_word why)))
+
+-- `T blind KIND`: another line that is not taken, so that the models are trusted no more
+abbrev pub blind_line : ℕ → Misheard → List ℕ
+blind_line time why = numeral time ++ (codes " blind " ++ misheard_word why)

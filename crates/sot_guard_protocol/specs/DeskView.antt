@@ -9,9 +9,7 @@ use Rattle.sot_guard_protocol.specs.Talks.{Talking}
 abbrev pub talking : Inside → Talking
 talking d = record { hearing = d.session; events = d.events }
 
--- what holds of each desk: it has a point for each plant and a number for each scalar, and the
--- names of its program are words
+-- what holds of each desk: it has a point for each plant, and the names of its program are words
 pub record IsDesk (d : Inside) : Type 0 where
   pub points : length d.points.items ≡ length (program_of d.session).plants
-  pub scalars : length d.scalars.items ≡ length (program_of d.session).scalars
   pub words : AreWords (program_of d.session)

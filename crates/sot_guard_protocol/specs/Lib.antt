@@ -1,4 +1,5 @@
 -- what the public contracts say
+pub mod Asides
 pub mod Answers
 pub mod Talks
 pub mod Openings

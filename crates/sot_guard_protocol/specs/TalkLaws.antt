@@ -6,17 +6,14 @@ use Rattle.sot_world.specs.Configurations.{IsOpening, IsSafer}
 use Rattle.sot_world.specs.Headline.{IsSafeNow}
 use Rattle.sot_guard.specs.Hearing.{jitter_of}
 use Rattle.sot_guard.specs.Conversations.{IsObserved}
-use Rattle.sot_guard_lines.specs.Sayings.{Saying, IsSaid}
 use Rattle.sot_guard_protocol.specs.declared.heard.Heard.{Heard}
-use Rattle.sot_guard_protocol.specs.Talks.{Talking, tables_of, Takes}
+use Rattle.sot_guard_protocol.specs.Talks.{Talking, tables_of, HearsSo}
 
 -- a line is heard, whatever takes its answer
 pub record HearsLine (t : Talking) (line : List ℕ) (u : Talking) : Type 0 where
-  pub saying : Saying
-  pub said : IsSaid (tables_of t) line saying
   pub heard : Heard
   pub answer : List (List ℕ)
-  pub takes : Takes t saying heard answer u
+  pub so : HearsSo t line heard answer u
 
 -- lines are heard, one after another
 abbrev pub HearsLines : Talking → List (List ℕ) → Talking → Type 0

@@ -1,7 +1,7 @@
 -- What contracts see of a talk, what each line of the robot changes in it and is answered with, and
 -- why a line is not taken.
 use Rattle.std.specs.Prelude.{ℕ, ◌+◌, ◌-◌, ◌^◌, ◌≤◌, ◌≡◌, ◌⊎◌, ℤ, Bool, List, [], ◌∷◌}
-use Rattle.std.specs.Prelude.{Option, Some, Result}
+use Rattle.std.specs.Prelude.{Option, None, Some, Result, codes}
 use Rattle.std.specs.Prelude.{MatchResult, map, min, length}
 use Rattle.std.specs.Option.{option_map}
 use Rattle.sot_lists.specs.Places.{Has}
@@ -20,12 +20,14 @@ use Rattle.sot_guard.specs.declared.misheard.Misheard.TheVariants.{OutOfTurn, No
 use Rattle.sot_guard.specs.declared.misheard.Misheard.TheVariants.{OutsideType}
 use Rattle.sot_guard.specs.Hearing.{Hearing, program_of, TakesInput, TakesDraft}
 use Rattle.sot_guard.specs.Hearing.{GoesThrough, TakesTick, RefusesInput, RefusesDraft}
-use Rattle.sot_guard.specs.Hearing.{RefusesGo, RefusesTick}
+use Rattle.sot_guard.specs.Hearing.{RefusesGo, RefusesTick, IsWithdrawn, PassesUnseen}
 use Rattle.sot_guard_lines.specs.Sayings.{Saying, StartSaid, InputSaid, DraftSaid, GoSaid, TickSaid}
 use Rattle.sot_guard_lines.specs.Sayings.{IsSaid}
 use Rattle.sot_guard_protocol.specs.declared.heard.Heard.{Heard}
 use Rattle.sot_guard_protocol.specs.declared.heard.Heard.TheVariants as heard
-use Rattle.sot_guard_protocol.specs.Answers.{instant_lines, outside_lines}
+use Rattle.sot_guard_protocol.specs.declared.aside.Aside.{Aside}
+use Rattle.sot_guard_protocol.specs.Asides.{aside_of}
+use Rattle.sot_guard_protocol.specs.Answers.{instant_lines, outside_lines, ignored_line, blind_line}
 
 -- a session, and how many events there were so far: inputs, decisions, firings and ticks
 pub record Talking : Type 0 where
@@ -104,20 +106,67 @@ Answers t s u puts result = MatchResult result
     (λ h. (lines : List (List ℕ)) × Takes t s h lines u × puts (text_of lines))
     (λ why. (u ≡ t) × Refuses t.hearing s why × puts [])
 
--- a line is taken
-pub record Hears (t : Talking) (line : List ℕ) (h : Heard) (u : Talking) (puts : List ℕ → Type 0)
-    : Type 0 where
-  pub saying : Saying
-  pub said : IsSaid (tables_of t) line saying
-  pub lines : List (List ℕ)
-  pub takes : Takes t saying h lines u
-  pub put : puts (text_of lines)
-
 -- a line says nothing, or what it says is not taken
 abbrev pub Mishears : Talking → List ℕ → Misheard → Type 0
 Mishears t line why =
     ((why ≡ NotALine) × ((s : Saying) → IsSaid (tables_of t) line s → ⊥))
     ⊎ ((s : Saying) × IsSaid (tables_of t) line s × Refuses t.hearing s why)
+
+-- a line is taken
+pub record TakesLine (t : Talking) (line : List ℕ) (h : Heard) (answer : List (List ℕ))
+    (u : Talking) : Type 0 where
+  pub saying : Saying
+  pub said : IsSaid (tables_of t) line saying
+  pub takes : Takes t saying h answer u
+
+-- a draft or an input is not taken: nothing changes, and that is told
+pub record Ignores (t : Talking) (line : List ℕ) (h : Heard) (answer : List (List ℕ))
+    (u : Talking) : Type 0 where
+  pub aside : Aside
+  pub is : aside_of line ≡ Some aside
+  pub why : Misheard
+  pub misheard : Mishears t line why
+  pub heard_is : h ≡ heard.Ignored
+  pub same : u ≡ t
+  pub answered : answer ≡ ignored_line (time_of t) aside why ∷ []
+
+-- the plants are lost from sight: a tick passes unseen where one was to come; and in an instant the
+-- models are trusted no more
+abbrev pub LosesSight : Talking → Talking → Type 0
+LosesSight t k =
+    (PassesUnseen t.hearing k.hearing × (k.events ≡ counted t.events 1))
+    ⊎ ((t.hearing.turn ≡ Instant) × IsWithdrawn t.hearing k.hearing × (k.events ≡ t.events))
+
+-- where the line says `go`, the instant is gone through all the same
+abbrev pub GoesOnBlind : Talking → List ℕ → List (List ℕ) → Talking → Type 0
+GoesOnBlind k line more u =
+    ((line ≡ codes "go") × GoesThrough k.hearing u.hearing
+    × (u.events ≡ counted k.events (length u.hearing.told))
+    × (more ≡ instant_lines (tables_of u) (time_of u) (scalars_of u) u.hearing.told))
+    ⊎ ((line ≡ codes "go" → ⊥) × (u ≡ k) × (more ≡ []))
+
+-- another line is not taken: the plants are lost from sight, and that is told
+pub record GoesBlind (t : Talking) (line : List ℕ) (h : Heard) (answer : List (List ℕ))
+    (u : Talking) : Type 0 where
+  pub none : aside_of line ≡ None
+  pub why : Misheard
+  pub misheard : Mishears t line why
+  pub heard_is : h ≡ heard.Blind
+  pub unseeing : Talking
+  pub loses : LosesSight t unseeing
+  pub more : List (List ℕ)
+  pub goes_on : GoesOnBlind unseeing line more u
+  pub answered : answer ≡ blind_line (time_of unseeing) why ∷ more
+
+-- what a line changes, and the lines that it is answered with
+abbrev pub HearsSo : Talking → List ℕ → Heard → List (List ℕ) → Talking → Type 0
+HearsSo t line h answer u =
+    TakesLine t line h answer u ⊎ Ignores t line h answer u ⊎ GoesBlind t line h answer u
+
+-- a line is heard, and its answer is put
+abbrev pub Hears : Talking → List ℕ → Heard → Talking → (List ℕ → Type 0) → Type 0
+Hears t line h u puts =
+    (answer : List (List ℕ)) × HearsSo t line h answer u × puts (text_of answer)
 
 -- nothing is said any more: the last instant was gone through
 abbrev pub IsOver : Talking → Type 0

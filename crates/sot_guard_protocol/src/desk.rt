@@ -1,6 +1,7 @@
 //! A session, and what it is answered with.
 
-ghost use Rattle.std.specs.Prelude.{◌≡◌, ℕ, ℤ, Bool, true, Option, List, [], length};
+ghost use Rattle.std.specs.Prelude.{◌≡◌, ◌<◌, ◌∷◌, ℕ, ℤ, Bool, true, Option, None, Some, List, []};
+ghost use Rattle.std.specs.Prelude.{length};
 ghost use Rattle.sot_trace.specs.Words.{AreWords};
 ghost use Rattle.sot_trace_lines.specs.Shown.{Holds, ShowsDraft};
 ghost use Rattle.sot_board.specs.Counts.{state_count};
@@ -8,11 +9,18 @@ ghost use Rattle.sot_guard.specs.Hearing.{Hearing, program_of};
 ghost use Rattle.sot_guard_lines.specs.Sayings.{Saying, InputSaid, DraftSaid, GoSaid, TickSaid};
 ghost use Rattle.sot_guard_lines.specs.Sayings.{FitsSaying};
 ghost use Rattle.sot_guard_lines.specs.Shown.{ShowsSaid};
+ghost use Rattle.sot_guard_protocol.specs.Asides.{aside_of};
+ghost use Rattle.sot_guard_protocol.specs.Answers.{blind_line};
 ghost use Rattle.sot_guard_protocol.specs.Talks.{tables_of, draft_of, counted, Answers, RefusesLarge};
+ghost use Rattle.sot_guard_protocol.specs.Talks.{time_of, Mishears, Hears, LosesSight, GoesOnBlind};
+ghost use Rattle.sot_guard_protocol.specs.Talks.{IsOver};
+ghost use Rattle.sot_guard.specs.Hearing.{PassesUnseen};
+ghost use Rattle.sot_guard.specs.declared.turn.SessionEvent.TheVariants.{Instant, Tick};
+ghost use Rattle.sot_trace.specs.Traces.{text_of};
 
-use crate::fill::put_scalars;
+use crate::aside::{Aside, aside_of, is_go};
 use crate::heard::Heard;
-use crate::put::{put_instant, put_value, put_where_outside};
+use crate::put::{put_blind, put_ignored, put_instant, put_value, put_where_outside};
 use sot_box::Point;
 use sot_guard::{Misheard, Session, SessionEvent};
 use sot_guard_lines::Said;
@@ -27,7 +35,6 @@ pub(crate) struct SessionDesk<'a> {
     session: Session<'a>,
     events: usize,
     points: Vec<Point>,
-    scalars: Vec<i64>,
 }
 
 impl<'a> Model for SessionDesk<'a> {
@@ -49,13 +56,8 @@ impl<'a> Model for SessionDesk<'a> {
 
 impl<'a> SessionDesk<'a> {
     /// No events yet.
-    pub(crate) fn new(
-        session: Session<'a>,
-        points: Vec<Point>,
-        scalars: Vec<i64>,
-    ) -> SessionDesk<'a>
+    pub(crate) fn new(session: Session<'a>, points: Vec<Point>) -> SessionDesk<'a>
         requires points { length points.items ≡ length (program_of session).plants }
-        requires scalars { length scalars.items ≡ length (program_of session).scalars }
         requires words { AreWords (program_of session) }
         ensures hearing { result.hearing ≡ session.entry }
         ensures events { result.events ≡ 0 }
@@ -64,7 +66,6 @@ impl<'a> SessionDesk<'a> {
             session,
             events: 0,
             points,
-            scalars,
         }
     }
 
@@ -134,9 +135,9 @@ impl<'a> SessionDesk<'a> {
             Err(why) => return Err(why),
         }
         let guard = self.session.guard();
-        put_scalars(guard, &mut self.scalars);
+        guard.reveal_invariant();
         let told = self.session.told();
-        put_instant(out, guard.typed(), guard.time(), told, &self.scalars);
+        put_instant(out, guard.typed(), guard.time(), told, guard.scalars());
         self.events = self.events.saturating_add(told.len());
         Ok(Heard::Go)
     }
@@ -224,6 +225,79 @@ impl<'a> SessionDesk<'a> {
             Said::Draft { node, draft } => self.take_draft(node, draft, out),
             Said::Go => self.go(out),
             Said::Tick { whole } => self.take_tick(whole, numbers, out),
+        }
+    }
+
+    // A draft or an input is not taken, which is told.
+    fn ignore<O: Out>(&mut self, line: &[u8], aside: Aside, why: Misheard, out: &mut O) -> Heard
+        requires is { aside_of line.now ≡ Some aside }
+        requires misheard { Mishears self.old line.now why }
+        ensures { Hears self.old line.now result self.new (O.puts out.old out.new) }
+    {
+        put_ignored(out, self.session.guard().time(), aside, why);
+        Heard::Ignored
+    }
+
+    // A tick passes unseen.
+    fn pass_unseen(&mut self)
+        requires turn { self.old.hearing.turn ≡ Tick }
+        requires time { time_of self.old < 100000 }
+        ensures passes { PassesUnseen self.old.hearing self.new.hearing }
+        ensures events { self.new.events ≡ counted self.old.events 1 }
+    {
+        self.session.pass_unseen(&mut self.points);
+        self.events = self.events.saturating_add(1);
+    }
+
+    // The plants are lost from sight.
+    fn lose_sight(&mut self)
+        requires going { IsOver self.old → ⊥ }
+        ensures loses { LosesSight self.old self.new }
+        ensures turn { self.new.hearing.turn ≡ Instant }
+    {
+        match self.session.turn() {
+            SessionEvent::Tick => self.pass_unseen(),
+            SessionEvent::Instant => self.session.withdraw(),
+        }
+    }
+
+    // Where the line says `go`, the instant is gone through all the same.
+    fn go_on_blind<O: Out>(&mut self, line: &[u8], out: &mut O)
+        requires turn { self.old.hearing.turn ≡ Instant }
+        ensures { (more : List (List ℕ)) × GoesOnBlind self.old line.now more self.new
+            × O.puts out.old out.new (text_of more) }
+    {
+        if is_go(line) {
+            match self.go(out) {
+                Ok(_) => {}
+                Err(_) => unreachable!(),
+            }
+        }
+    }
+
+    // A line is not taken that is no draft and no input.
+    fn go_blind<O: Out>(&mut self, line: &[u8], why: Misheard, out: &mut O) -> Heard
+        requires going { IsOver self.old → ⊥ }
+        requires none { aside_of line.now ≡ None }
+        requires misheard { Mishears self.old line.now why }
+        ensures { Hears self.old line.now result self.new (O.puts out.old out.new) }
+    {
+        self.lose_sight();
+        put_blind(out, self.session.guard().time(), why);
+        self.go_on_blind(line, out);
+        Heard::Blind
+    }
+
+    /// A line is not taken: a draft or an input is ignored, and after any other line the models are
+    /// trusted no more.
+    pub(crate) fn mishear<O: Out>(&mut self, line: &[u8], why: Misheard, out: &mut O) -> Heard
+        requires going { IsOver self.old → ⊥ }
+        requires misheard { Mishears self.old line.now why }
+        ensures { Hears self.old line.now result self.new (O.puts out.old out.new) }
+    {
+        match aside_of(line) {
+            Some(aside) => self.ignore(line, aside, why, out),
+            None => self.go_blind(line, why, out),
         }
     }
 }

@@ -11,4 +11,8 @@ pub enum Heard {
     Go,
     /// The states of all plants after a tick.
     Tick,
+    /// A draft or an input that is not taken, which changes nothing.
+    Ignored,
+    /// Another line that is not taken: the models are trusted no more.
+    Blind,
 }

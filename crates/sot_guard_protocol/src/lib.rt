@@ -4,8 +4,8 @@
 //! line of the robot at a time, and puts the lines that it is answered with.
 #![tactic(auto)]
 
+mod aside;
 mod desk;
-mod fill;
 mod heard;
 mod laws;
 mod opening;
@@ -13,7 +13,9 @@ mod places;
 mod put;
 mod talk;
 
+pub use aside::Aside;
 pub use heard::Heard;
 pub use laws::{trusted_talks_are_observed, trusted_talks_are_safe};
 pub use opening::TalkOpening;
+pub use put::misheard_word;
 pub use talk::Talk;

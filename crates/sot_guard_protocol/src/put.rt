@@ -3,16 +3,19 @@
 ghost use Rattle.std.specs.Prelude.{◌≡◌, ℕ, ◌<◌, ◌∷◌, [], length, map};
 ghost use Rattle.sot_guard_protocol.specs.Answers.{told_line, hold_lines, instant_lines};
 ghost use Rattle.sot_guard_protocol.specs.Answers.{outside_lines, AreThere};
+ghost use Rattle.sot_guard_protocol.specs.Answers.{misheard_word, aside_word, ignored_line};
+ghost use Rattle.sot_guard_protocol.specs.Answers.{blind_line};
 ghost use Rattle.sot_guard_lines.specs.Lines.{ready_line};
 ghost use Rattle.sot_trace.specs.Traces.{text_of};
 ghost use Rattle.sot_trace.specs.Lines.{line_of};
 ghost use Rattle.sot_world.specs.HistoryEntry.{InputAt};
 
-use sot_guard::{Outside, Told};
+use crate::aside::Aside;
+use sot_guard::{Misheard, Outside, Told};
 use sot_guard_lines::{put_hold, put_outside, put_ready};
 use sot_lang::Typed;
 use sot_text_output::Out;
-use sot_trace::{put_decision, put_firing, put_input};
+use sot_trace::{put_decision, put_firing, put_input, put_time};
 
 // What happened, without a line end.
 fn put_told<O: Out>(out: &mut O, p: &Typed, time: u32, told: Told)
@@ -89,5 +92,64 @@ pub(crate) fn put_value<O: Out>(out: &mut O, p: &Typed, time: u32, topic: u32, v
         (text_of (line_of p.now (InputAt time topic value.now) ∷ [])) }
 {
     put_input(out, p, time, topic, value);
+    out.put_byte(b'\n')
+}
+
+/// The name of what is wrong with a line.
+pub fn misheard_word(why: Misheard) -> &'static str
+    ensures { result.now ≡ misheard_word why }
+{
+    match why {
+        Misheard::OutOfTurn => "OutOfTurn",
+        Misheard::NotALine => "NotALine",
+        Misheard::NotDue => "NotDue",
+        Misheard::AlreadyDrafted => "AlreadyDrafted",
+        Misheard::OutsideType => "OutsideType",
+        Misheard::TooFar => "TooFar",
+    }
+}
+
+fn aside_word(aside: Aside) -> &'static str
+    ensures { result.now ≡ aside_word aside }
+{
+    match aside {
+        Aside::Draft => "draft",
+        Aside::Input => "input",
+    }
+}
+
+// The line of a draft or an input that is not taken, without its line end.
+fn put_ignored_line<O: Out>(out: &mut O, time: u32, aside: Aside, why: Misheard)
+    ensures { O.puts out.old out.new (ignored_line time aside why) }
+{
+    put_time(out, time);
+    out.put(" ignored ");
+    out.put(aside_word(aside));
+    out.put_byte(b' ');
+    out.put(misheard_word(why))
+}
+
+/// The line of a draft or an input that is not taken.
+pub(crate) fn put_ignored<O: Out>(out: &mut O, time: u32, aside: Aside, why: Misheard)
+    ensures { O.puts out.old out.new (text_of (ignored_line time aside why ∷ [])) }
+{
+    put_ignored_line(out, time, aside, why);
+    out.put_byte(b'\n')
+}
+
+// The line of another line that is not taken, without its line end.
+fn put_blind_line<O: Out>(out: &mut O, time: u32, why: Misheard)
+    ensures { O.puts out.old out.new (blind_line time why) }
+{
+    put_time(out, time);
+    out.put(" blind ");
+    out.put(misheard_word(why))
+}
+
+/// The line of another line that is not taken.
+pub(crate) fn put_blind<O: Out>(out: &mut O, time: u32, why: Misheard)
+    ensures { O.puts out.old out.new (text_of (blind_line time why ∷ [])) }
+{
+    put_blind_line(out, time, why);
     out.put_byte(b'\n')
 }

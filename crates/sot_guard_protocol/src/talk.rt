@@ -1,13 +1,13 @@
 //! A talk with a robot.
 
-ghost use Rattle.std.specs.Prelude.{◌≡◌, ◌∷◌, [], ◌↔◌, true, IsTrue, IfOk, IfErr, OnErr};
+ghost use Rattle.std.specs.Prelude.{◌≡◌, ◌∷◌, [], ◌↔◌, ℕ, List, true, IsTrue, IfOk, IfErr, OnErr};
 ghost use Rattle.sot_trace.specs.Traces.{text_of};
 ghost use Rattle.sot_world.specs.Configurations.{IsOpening, IsSafer};
 ghost use Rattle.sot_world.specs.Opens.{IsFirstOutside, IfNotSafer};
 ghost use Rattle.sot_guard.specs.Hearing.{NoDrafts};
 ghost use Rattle.sot_guard.specs.declared.turn.SessionEvent.TheVariants.{Instant};
 ghost use Rattle.sot_guard_lines.specs.Lines.{end_line};
-ghost use Rattle.sot_guard_protocol.specs.Talks.{time_of, Hears, Mishears, IsOver};
+ghost use Rattle.sot_guard_protocol.specs.Talks.{time_of, TakesLine, Hears, Mishears, IsOver};
 ghost use Rattle.sot_guard_protocol.specs.Openings.{HasAll};
 
 use crate::desk::SessionDesk;
@@ -69,21 +69,17 @@ impl<'a> Talk<'a> {
             Ok(session) => session,
             Err(fail) => return Err(fail),
         };
-        match vec![in alloc; 0; acc.typed().scalars.len()] {
-            Ok(scalars) => Ok(Talk {
-                desk: SessionDesk::new(session, lists.starts, scalars),
-                numbers: lists.numbers,
-            }),
-            Err(_) => Err(OpenFail::Memory),
-        }
+        Ok(Talk {
+            desk: SessionDesk::new(session, lists.starts),
+            numbers: lists.numbers,
+        })
     }
 
-    /// Hears a line of the robot, without its line end, and puts the lines that it is answered
-    /// with, each with a line end (LF). After an error nothing has changed, and nothing was put.
-    /// Once the talk [`Talk::is_over`], each line is out of turn, and a tick too far.
-    pub fn hear<O: Out>(&mut self, line: &[u8], out: &mut O) -> Result<Heard, Misheard>
-        ensures heard { IfOk result (λ h.
-            Hears self.old line.now h self.new (O.puts out.old out.new)) }
+    // What a line says is taken and answered, or nothing changes, and nothing is put.
+    fn take<O: Out>(&mut self, line: &[u8], out: &mut O) -> Result<Heard, Misheard>
+        ensures heard { IfOk result (λ h. (answer : List (List ℕ))
+            × TakesLine self.old line.now h answer self.new × O.puts out.old out.new
+            (text_of answer)) }
         ensures same { OnErr result (self.new ≡ self.old) }
         ensures unheard { IfErr result (λ why. Mishears self.old line.now why) }
         ensures nothing_put { OnErr result (O.puts out.old out.new []) }
@@ -92,6 +88,20 @@ impl<'a> Talk<'a> {
         match read_said(p, line, &mut self.numbers) {
             Some(said) => self.desk.take(said, &self.numbers, out),
             None => Err(Misheard::NotALine),
+        }
+    }
+
+    /// Hears a line of the robot, without its line end, and puts the lines that it is answered
+    /// with, each with a line end (LF). No line ends the talk: a draft or an input that is not
+    /// taken is `Ignored` and changes nothing, and after any other line that is not taken the
+    /// models are trusted no more (`Blind`).
+    pub fn hear<O: Out>(&mut self, line: &[u8], out: &mut O) -> Heard
+        requires going { IsOver self.old → ⊥ }
+        ensures { Hears self.old line.now result self.new (O.puts out.old out.new) }
+    {
+        match self.take(line, out) {
+            Ok(heard) => heard,
+            Err(why) => self.desk.mishear(line, why, out),
         }
     }
 

@@ -1,22 +1,31 @@
 -- What a talk keeps to once the models are not trusted.
-use Rattle.std.proofs.Common.{◌≡◌, ℕ, ℤ, true, false, List, [], ◌∷◌, Option, None, Some, sym, ap, ◌∙◌, subst}
-use Rattle.std.specs.Prelude.{MatchOption, slice_index_or, ◌≢◌}
+use Rattle.std.proofs.Common.{◌≡◌, ℕ, ℤ, true, false, List, [], ◌∷◌, Option, None, Some, inl, inr, refl, sym, ap, ◌∙◌, subst}
+use Rattle.std.specs.Prelude.{MatchOption, slice_index_or, ◌≢◌, ◌⊎◌}
+use Rattle.std.proofs.lemmas.Option.{none-some}
 use Rattle.std.proofs.lemmas.Bool.{false≢true}
 use Rattle.sot_world.specs.declared.mode.Mode.TheVariants.{Sc}
 use Rattle.sot_guard.specs.declared.outside.Outside.{Outside}
 use Rattle.sot_guard.specs.Outside.{IsFirstOutside}
-use Rattle.sot_guard.specs.Changes.{GoesOn, Withdraws}
+use Rattle.sot_guard.specs.Guarding.{Guarding}
+use Rattle.sot_guard.specs.Changes.{GoesOn, Withdraws, AsksSafeNodes}
 use Rattle.sot_guard.specs.Instants.{AreTold}
-use Rattle.sot_guard.specs.Hearing.{Hearing, jitter_of, GoesThrough}
-use Rattle.sot_guard_lines.specs.Sayings.{Saying, StartSaid, InputSaid, DraftSaid, GoSaid, TickSaid}
+use Rattle.sot_guard.specs.Hearing.{Hearing, jitter_of, GoesThrough, FallsBack}
+use Rattle.sot_lists.specs.Places.{At}
+use Rattle.sot_lang.specs.declared.tables.ModuleInfo.{ModuleInfo}
+use Rattle.sot_tube.specs.Admitted.{Admitted}
+use Rattle.sot_world.specs.Configurations.{mode_of, is_left}
+use Rattle.sot_guard_lines.specs.Sayings.{Saying, StartSaid, InputSaid, DraftSaid, GoSaid, TickSaid, IsSaid}
 use Rattle.sot_guard_protocol.specs.declared.heard.Heard.{Heard}
-use Rattle.sot_guard_protocol.specs.declared.heard.Heard.TheVariants.{Go, Tick}
+use Rattle.sot_guard_protocol.specs.declared.heard.Heard.TheVariants.{Go, Tick, Ignored, Blind}
+use Rattle.sot_guard_protocol.specs.declared.aside.Aside.{Aside}
+use Rattle.sot_guard_protocol.specs.Asides.{aside_of}
 use Rattle.sot_guard_protocol.specs.Answers.{outside_lines}
-use Rattle.sot_guard_protocol.specs.Talks.{Talking, tables_of, time_of, Takes}
+use Rattle.sot_guard_protocol.specs.Talks.{Talking, tables_of, time_of, Takes, LosesSight, GoesOnBlind, GoesBlind, HearsSo}
 use Rattle.sot_guard_protocol.specs.TalkLaws.{HearsLines}
 use Rattle.sot_law_guard_fallback.specs.Distrust.{AreAllSc, AreScInDistrust, TellsOutside, IsSafeInstant, points_of}
 use Rattle.sot_law_guard_fallback.specs.Distrust.{DistrustIsForGood, TrustEndsByAnOutside, OutsideEndsTrust, ModesStaySc, DistrustedTalksAreInModeSc}
-use Rattle.sot_law_guard_fallback.specs.Distrust.{DistrustedInstantsAreSafe}
+use Rattle.sot_law_guard_fallback.specs.Distrust.{DistrustedInstantsAreSafe, AsidesKeepTrust, IgnoredLinesChangeNothing, BlindEndsTrust}
+use Rattle.sot_law_guard_fallback.specs.Distrust.{EndOfTrustAsksSafeNodes}
 use Rattle.sot_law_guard_fallback.proofs.Instants.{GoesInSc, told_in_sc}
 
 -- what a line leaves
@@ -47,10 +56,22 @@ go_stays t u goes = record {
       );
 }
 
-judged_stays : (t u : Talking) (points : List (List ℤ)) (o : Option Outside)
-    → MatchOption o (GoesOn t.hearing.guarding u.hearing.guarding) (λ x. Withdraws t.hearing.guarding u.hearing.guarding points x) → Stays t u
-judged_stays t u points None g = same_stays t u g.trusted g.modes
-judged_stays t u points (Some o) w = record { distrust = λ off. w.is; modes = λ safe off. w.modes }
+-- what asks the safe nodes leaves
+asks_off : (old new : Guarding) → AsksSafeNodes old new → new.trusted ≡ old.trusted
+asks_off old new asks = ap (λ (x : Guarding). x.trusted) asks.rest
+
+asks_sc : (old new : Guarding) → AsksSafeNodes old new → ((m : ℕ) → mode_of old.at m ≡ Sc) → (m : ℕ) → mode_of new.at m ≡ Sc
+asks_sc old new asks sc m = ap (λ (x : Guarding). slice_index_or x.at.modes m Sc) asks.rest ∙ sc m
+
+judged_stays : (t u : Talking) (moved : Guarding) (points : List (List ℤ)) (o : Option Outside)
+    → MatchOption o (GoesOn t.hearing.guarding moved) (λ x. Withdraws t.hearing.guarding moved points x)
+    → MatchOption o (u.hearing.guarding ≡ moved) (λ x. AsksSafeNodes moved u.hearing.guarding) → Stays t u
+judged_stays t u moved points None g asked =
+    same_stays t u (ap (λ (x : Guarding). x.trusted) asked ∙ g.trusted) (ap (λ (x : Guarding). x.at.modes) asked ∙ g.modes)
+judged_stays t u moved points (Some o) w asked = record {
+  distrust = λ off. asks_off moved u.hearing.guarding asked ∙ w.is;
+  modes = λ safe off. asks_sc moved u.hearing.guarding asked w.modes;
+}
 
 takes_stays : (t u : Talking) (s : Saying) (h : Heard) (answer : List (List ℕ)) → Takes t s h answer u → Stays t u
 takes_stays t u (StartSaid plant point) h answer takes = absurd takes
@@ -59,13 +80,48 @@ takes_stays t u (InputSaid topic value) h answer takes =
 takes_stays t u (DraftSaid node slots) h answer takes =
     same_stays t u (ap (λ (x : Hearing). x.guarding.trusted) takes.1.rest) (ap (λ (x : Hearing). x.guarding.at.modes) takes.1.rest)
 takes_stays t u GoSaid h answer takes = go_stays t u takes.1
-takes_stays t u (TickSaid states) h answer takes = judged_stays t u _ takes.0 takes.2.judged
+takes_stays t u (TickSaid states) h answer takes = judged_stays t u takes.2.moved _ takes.0 takes.2.judged takes.2.asked
+
+fallen_sc : (old new : Guarding) → FallsBack old new → (m : ℕ) → mode_of new.at m ≡ Sc
+fallen_sc old new falls = asks_sc falls.between new falls.asks falls.distrusts.modes
+
+fallen_off : (old new : Guarding) → FallsBack old new → new.trusted ≡ false
+fallen_off old new falls = asks_off falls.between new falls.asks ∙ falls.distrusts.is
+
+-- what a line leaves that is not taken, and is no draft and no input
+lost_sc : (t k : Talking) → LosesSight t k → (m : ℕ) → mode_of k.hearing.guarding.at m ≡ Sc
+lost_sc t k (inl unseen) = fallen_sc unseen.0.moved k.hearing.guarding unseen.0.falls
+lost_sc t k (inr withdrawn) = fallen_sc t.hearing.guarding k.hearing.guarding withdrawn.1.falls
+
+lost_off : (t k : Talking) → LosesSight t k → k.hearing.guarding.trusted ≡ false
+lost_off t k (inl unseen) = fallen_off unseen.0.moved k.hearing.guarding unseen.0.falls
+lost_off t k (inr withdrawn) = fallen_off t.hearing.guarding k.hearing.guarding withdrawn.1.falls
+
+on_blind_stays : (k u : Talking) (line : List ℕ) (more : List (List ℕ)) → GoesOnBlind k line more u → Stays k u
+on_blind_stays k u line more (inl goes) = go_stays k u goes.1
+on_blind_stays k u line more (inr same) =
+    same_stays k u (ap (λ (x : Talking). x.hearing.guarding.trusted) same.1) (ap (λ (x : Talking). x.hearing.guarding.at.modes) same.1)
+
+blind_sc : (t u : Talking) (line : List ℕ) (h : Heard) (answer : List (List ℕ)) → GoesBlind t line h answer u
+    → (u.hearing.guarding.trusted ≡ false) × AreAllSc u
+blind_sc t u line h answer b =
+    let after = on_blind_stays b.unseeing u line b.more b.goes_on in
+    let off = after.distrust (lost_off t b.unseeing b.loses) in
+    (off, after.modes (λ _ m. lost_sc t b.unseeing b.loses m) off)
+
+so_stays : (t u : Talking) (line : List ℕ) (h : Heard) (answer : List (List ℕ)) → HearsSo t line h answer u → Stays t u
+so_stays t u line h answer (inl taken) = takes_stays t u taken.saying h answer taken.takes
+so_stays t u line h answer (inr (inl ignored)) =
+    same_stays t u (ap (λ (x : Talking). x.hearing.guarding.trusted) ignored.same) (ap (λ (x : Talking). x.hearing.guarding.at.modes) ignored.same)
+so_stays t u line h answer (inr (inr blind)) =
+    let sc = blind_sc t u line h answer blind in
+    record { distrust = λ off. sc.0; modes = λ safe off. sc.1 }
 
 lines_stay : (t u : Talking) (lines : List (List ℕ)) → HearsLines t lines u → Stays t u
 lines_stay t u [] same =
     same_stays t u (ap (λ (x : Talking). x.hearing.guarding.trusted) same) (ap (λ (x : Talking). x.hearing.guarding.at.modes) same)
 lines_stay t u (line ∷ lines) (b, one, more) =
-    let first = takes_stays t b one.saying one.heard one.answer one.takes in
+    let first = so_stays t b line one.heard one.answer one.so in
     let rest = lines_stay b u lines more in
     record { distrust = λ off. rest.distrust (first.distrust off); modes = λ safe. rest.modes (first.modes safe) }
 
@@ -79,14 +135,18 @@ pub in_sc : DistrustedTalksAreInModeSc
 in_sc t u lines on hears off = stay_sc t u lines hears (λ before. absurd (false≢true (sym before ∙ on))) off
 
 -- where trust ends
-judged_ends : (t u : Talking) (points : List (List ℤ)) (o : Option Outside) (answer : List (List ℕ)) → t.hearing.guarding.trusted ≡ true
-    → u.hearing.guarding.trusted ≡ false → u.hearing.guarding.at.points ≡ points
-    → MatchOption o (GoesOn t.hearing.guarding u.hearing.guarding) (λ x. Withdraws t.hearing.guarding u.hearing.guarding points x)
+judged_ends : (t u : Talking) (moved : Guarding) (points : List (List ℤ)) (o : Option Outside) (answer : List (List ℕ))
+    → t.hearing.guarding.trusted ≡ true → u.hearing.guarding.trusted ≡ false → moved.at.points ≡ points
+    → MatchOption o (GoesOn t.hearing.guarding moved) (λ x. Withdraws t.hearing.guarding moved points x)
+    → MatchOption o (u.hearing.guarding ≡ moved) (λ x. AsksSafeNodes moved u.hearing.guarding)
     → answer ≡ outside_lines (tables_of u) (time_of u) o → TellsOutside t u answer
-judged_ends t u points None answer on off at g line = absurd (false≢true (sym off ∙ g.trusted ∙ on))
-judged_ends t u points (Some o) answer on off at w line = record {
+judged_ends t u moved points None answer on off at g asked line =
+    absurd (false≢true (sym off ∙ ap (λ (x : Guarding). x.trusted) asked ∙ g.trusted ∙ on))
+judged_ends t u moved points (Some o) answer on off at w asked line = record {
   outside = o;
-  first = subst (λ x. IsFirstOutside (tables_of t) t.hearing.guarding.at.scalars (points_of t) x o) (sym at) w.outside;
+  first =
+      subst (λ x. IsFirstOutside (tables_of t) t.hearing.guarding.at.scalars (points_of t) x o)
+      (sym (ap (λ (x : Guarding). x.at.points) asked.rest ∙ at)) w.outside;
   line = line;
 }
 
@@ -99,17 +159,26 @@ takes_ends t u (DraftSaid node slots) h answer takes on off =
     absurd (false≢true (sym off ∙ ap (λ (x : Hearing). x.guarding.trusted) takes.1.rest ∙ on))
 takes_ends t u GoSaid h answer takes on off = absurd (false≢true (sym off ∙ takes.1.trusted ∙ on))
 takes_ends t u (TickSaid states) h answer takes on off =
-    (takes.1, judged_ends t u _ takes.0 answer on off takes.2.moves.points takes.2.judged takes.4)
+    (takes.1, judged_ends t u takes.2.moved _ takes.0 answer on off takes.2.moves.points takes.2.judged takes.2.asked takes.4)
+
+so_ends : (t u : Talking) (line : List ℕ) (h : Heard) (answer : List (List ℕ)) → HearsSo t line h answer u → t.hearing.guarding.trusted ≡ true
+    → u.hearing.guarding.trusted ≡ false → ((h ≡ Tick) × TellsOutside t u answer) ⊎ (h ≡ Blind)
+so_ends t u line h answer (inl taken) on off = inl (takes_ends t u taken.saying h answer taken.takes on off)
+so_ends t u line h answer (inr (inl ignored)) on off =
+    absurd (false≢true (sym off ∙ ap (λ (x : Talking). x.hearing.guarding.trusted) ignored.same ∙ on))
+so_ends t u line h answer (inr (inr blind)) on off = inr blind.heard_is
 
 pub ends : TrustEndsByAnOutside
-ends t u line h on off = takes_ends t u h.saying h.heard h.answer h.takes on off
+ends t u line h on off = so_ends t u line h.heard h.answer h.so on off
 
-judged_outside : (t u : Talking) (points : List (List ℤ)) (o : Option Outside) (answer : List (List ℕ)) → answer ≢ []
-    → MatchOption o (GoesOn t.hearing.guarding u.hearing.guarding) (λ x. Withdraws t.hearing.guarding u.hearing.guarding points x)
+judged_outside : (t u : Talking) (moved : Guarding) (points : List (List ℤ)) (o : Option Outside) (answer : List (List ℕ)) → answer ≢ []
+    → MatchOption o (GoesOn t.hearing.guarding moved) (λ x. Withdraws t.hearing.guarding moved points x)
+    → MatchOption o (u.hearing.guarding ≡ moved) (λ x. AsksSafeNodes moved u.hearing.guarding)
     → answer ≡ outside_lines (tables_of u) (time_of u) o
     → (t.hearing.guarding.trusted ≡ true) × (u.hearing.guarding.trusted ≡ false) × AreAllSc u
-judged_outside t u points None answer some g line = absurd (some line)
-judged_outside t u points (Some o) answer some w line = (w.was, w.is, w.modes)
+judged_outside t u moved points None answer some g asked line = absurd (some line)
+judged_outside t u moved points (Some o) answer some w asked line =
+    (w.was, asks_off moved u.hearing.guarding asked ∙ w.is, asks_sc moved u.hearing.guarding asked w.modes)
 
 takes_outside : (t u : Talking) (s : Saying) (h : Heard) (answer : List (List ℕ)) → Takes t s h answer u → h ≡ Tick → answer ≢ []
     → (t.hearing.guarding.trusted ≡ true) × (u.hearing.guarding.trusted ≡ false) × AreAllSc u
@@ -117,10 +186,48 @@ takes_outside t u (StartSaid plant point) h answer takes tick some = absurd take
 takes_outside t u (InputSaid topic value) h answer takes tick some = (let e = sym takes.0 ∙ tick in cc)
 takes_outside t u (DraftSaid node slots) h answer takes tick some = (let e = sym takes.0 ∙ tick in cc)
 takes_outside t u GoSaid h answer takes tick some = (let e = sym takes.0 ∙ tick in cc)
-takes_outside t u (TickSaid states) h answer takes tick some = judged_outside t u _ takes.0 answer some takes.2.judged takes.4
+takes_outside t u (TickSaid states) h answer takes tick some = judged_outside t u takes.2.moved _ takes.0 answer some takes.2.judged takes.2.asked takes.4
+
+so_outside : (t u : Talking) (line : List ℕ) (h : Heard) (answer : List (List ℕ)) → HearsSo t line h answer u → h ≡ Tick → answer ≢ []
+    → (t.hearing.guarding.trusted ≡ true) × (u.hearing.guarding.trusted ≡ false) × AreAllSc u
+so_outside t u line h answer (inl taken) tick some = takes_outside t u taken.saying h answer taken.takes tick some
+so_outside t u line h answer (inr (inl ignored)) tick some = (let e = sym ignored.heard_is ∙ tick in cc)
+so_outside t u line h answer (inr (inr blind)) tick some = (let e = sym blind.heard_is ∙ tick in cc)
 
 pub outside_ends : OutsideEndsTrust
-outside_ends t u line h tick some = takes_outside t u h.saying h.heard h.answer h.takes tick some
+outside_ends t u line h tick some = so_outside t u line h.heard h.answer h.so tick some
+
+-- who is asked where it ends
+judged_asks : (t u : Talking) (moved : Guarding) (points : List (List ℤ)) (o : Option Outside) → t.hearing.guarding.trusted ≡ true
+    → u.hearing.guarding.trusted ≡ false
+    → MatchOption o (GoesOn t.hearing.guarding moved) (λ x. Withdraws t.hearing.guarding moved points x)
+    → MatchOption o (u.hearing.guarding ≡ moved) (λ x. AsksSafeNodes moved u.hearing.guarding)
+    → u.hearing.guarding.accepted ≡ t.hearing.guarding.accepted → (m : ℕ) (a : ModuleInfo) → At (tables_of t).modules m a
+    → is_left u.hearing.guarding.at a.sc ≡ true
+judged_asks t u moved points None on off g asked same m a at =
+    absurd (false≢true (sym off ∙ ap (λ (x : Guarding). x.trusted) asked ∙ g.trusted ∙ on))
+judged_asks t u moved points (Some o) on off w asked same m a at =
+    let as_moved = sym same ∙ ap (λ (x : Guarding). x.accepted) asked.rest in
+    (asked.left a.sc).1 (inr (m, a, subst (λ (x : Admitted). At x.program.modules m a) as_moved at, refl))
+
+takes_asks : (t u : Talking) (s : Saying) (h : Heard) (answer : List (List ℕ)) → Takes t s h answer u → h ≡ Tick → t.hearing.guarding.trusted ≡ true
+    → u.hearing.guarding.trusted ≡ false → (m : ℕ) (a : ModuleInfo) → At (tables_of t).modules m a → is_left u.hearing.guarding.at a.sc ≡ true
+takes_asks t u (StartSaid plant point) h answer takes tick on off = absurd takes
+takes_asks t u (InputSaid topic value) h answer takes tick on off = (let e = sym takes.0 ∙ tick in cc)
+takes_asks t u (DraftSaid node slots) h answer takes tick on off = (let e = sym takes.0 ∙ tick in cc)
+takes_asks t u GoSaid h answer takes tick on off = (let e = sym takes.0 ∙ tick in cc)
+takes_asks t u (TickSaid states) h answer takes tick on off =
+    judged_asks t u takes.2.moved _ takes.0 on off takes.2.judged takes.2.asked takes.2.accepted
+
+so_asks : (t u : Talking) (line : List ℕ) (h : Heard) (answer : List (List ℕ)) → HearsSo t line h answer u → h ≡ Tick
+    → t.hearing.guarding.trusted ≡ true → u.hearing.guarding.trusted ≡ false → (m : ℕ) (a : ModuleInfo) → At (tables_of t).modules m a
+    → is_left u.hearing.guarding.at a.sc ≡ true
+so_asks t u line h answer (inl taken) tick on off = takes_asks t u taken.saying h answer taken.takes tick on off
+so_asks t u line h answer (inr (inl ignored)) tick on off = (let e = sym ignored.heard_is ∙ tick in cc)
+so_asks t u line h answer (inr (inr blind)) tick on off = (let e = sym blind.heard_is ∙ tick in cc)
+
+pub asks_safe_nodes : EndOfTrustAsksSafeNodes
+asks_safe_nodes t u line h on off tick = so_asks t u line h.heard h.answer h.so tick on off
 
 takes_instant : (t u : Talking) (s : Saying) (h : Heard) (answer : List (List ℕ)) → Takes t s h answer u → h ≡ Go → t.hearing.guarding.trusted ≡ false
     → AreAllSc t → IsSafeInstant t u answer
@@ -132,6 +239,65 @@ takes_instant t u GoSaid h answer takes go off sc =
     let instant = instant_in_sc t u takes.1 off sc in
     record { answered = takes.3; told = instant.told; held = instant.held }
 
+so_instant : (t u : Talking) (line : List ℕ) (h : Heard) (answer : List (List ℕ)) → HearsSo t line h answer u → h ≡ Go
+    → t.hearing.guarding.trusted ≡ false → AreAllSc t → IsSafeInstant t u answer
+so_instant t u line h answer (inl taken) go off sc = takes_instant t u taken.saying h answer taken.takes go off sc
+so_instant t u line h answer (inr (inl ignored)) go off sc = (let e = sym ignored.heard_is ∙ go in cc)
+so_instant t u line h answer (inr (inr blind)) go off sc = (let e = sym blind.heard_is ∙ go in cc)
+
 pub instants : DistrustedInstantsAreSafe
-instants s t u lines line on hears off h go =
-    takes_instant t u h.saying h.heard h.answer h.takes go off (in_sc s t lines on hears off)
+instants s t u lines line on hears off h go = so_instant t u line h.heard h.answer h.so go off (in_sc s t lines on hears off)
+
+-- a line of no draft and no input
+is_none : {A : Type 0} (o : Option A) (x : A) → o ≡ None → o ≡ Some x → ⊥
+is_none o x none some = none-some x (sym none ∙ some)
+
+takes_keeps : (t u : Talking) (line : List ℕ) (aside : Aside) → aside_of line ≡ Some aside → (s : Saying) → IsSaid (tables_of t) line s
+    → (h : Heard) (answer : List (List ℕ)) → Takes t s h answer u → u.hearing.guarding.trusted ≡ t.hearing.guarding.trusted
+takes_keeps t u line aside is (StartSaid plant point) said h answer takes = absurd takes
+takes_keeps t u line aside is (InputSaid topic value) said h answer takes = ap (λ (x : Hearing). x.guarding.trusted) takes.1.rest
+takes_keeps t u line aside is (DraftSaid node slots) said h answer takes = ap (λ (x : Hearing). x.guarding.trusted) takes.1.rest
+takes_keeps t u line aside is GoSaid said h answer takes = takes.1.trusted
+takes_keeps t u line aside is (TickSaid states) said h answer takes =
+    absurd (none-some aside (ap aside_of (sym said.1) ∙ is))
+
+so_keeps : (t u : Talking) (line : List ℕ) (aside : Aside) → aside_of line ≡ Some aside → (h : Heard) (answer : List (List ℕ))
+    → HearsSo t line h answer u → u.hearing.guarding.trusted ≡ t.hearing.guarding.trusted
+so_keeps t u line aside is h answer (inl taken) = takes_keeps t u line aside is taken.saying taken.said h answer taken.takes
+so_keeps t u line aside is h answer (inr (inl ignored)) = ap (λ (x : Talking). x.hearing.guarding.trusted) ignored.same
+so_keeps t u line aside is h answer (inr (inr blind)) = absurd (is_none (aside_of line) aside blind.none is)
+
+pub asides : AsidesKeepTrust
+asides t u line aside is h = so_keeps t u line aside is h.heard h.answer h.so
+
+-- what is taken is told by other words
+never_ignored : (t u : Talking) (s : Saying) (h : Heard) (answer : List (List ℕ)) → Takes t s h answer u → h ≡ Ignored → ⊥
+never_ignored t u (StartSaid plant point) h answer takes is = takes
+never_ignored t u (InputSaid topic value) h answer takes is = (let e = sym takes.0 ∙ is in cc)
+never_ignored t u (DraftSaid node slots) h answer takes is = (let e = sym takes.0 ∙ is in cc)
+never_ignored t u GoSaid h answer takes is = (let e = sym takes.0 ∙ is in cc)
+never_ignored t u (TickSaid states) h answer takes is = (let e = sym takes.1 ∙ is in cc)
+
+never_blind : (t u : Talking) (s : Saying) (h : Heard) (answer : List (List ℕ)) → Takes t s h answer u → h ≡ Blind → ⊥
+never_blind t u (StartSaid plant point) h answer takes is = takes
+never_blind t u (InputSaid topic value) h answer takes is = (let e = sym takes.0 ∙ is in cc)
+never_blind t u (DraftSaid node slots) h answer takes is = (let e = sym takes.0 ∙ is in cc)
+never_blind t u GoSaid h answer takes is = (let e = sym takes.0 ∙ is in cc)
+never_blind t u (TickSaid states) h answer takes is = (let e = sym takes.1 ∙ is in cc)
+
+so_ignored : (t u : Talking) (line : List ℕ) (h : Heard) (answer : List (List ℕ)) → HearsSo t line h answer u → h ≡ Ignored → u ≡ t
+so_ignored t u line h answer (inl taken) is = absurd (never_ignored t u taken.saying h answer taken.takes is)
+so_ignored t u line h answer (inr (inl ignored)) is = ignored.same
+so_ignored t u line h answer (inr (inr blind)) is = (let e = sym blind.heard_is ∙ is in cc)
+
+pub ignored_same : IgnoredLinesChangeNothing
+ignored_same t u line h is = so_ignored t u line h.heard h.answer h.so is
+
+so_blind : (t u : Talking) (line : List ℕ) (h : Heard) (answer : List (List ℕ)) → HearsSo t line h answer u → h ≡ Blind
+    → (u.hearing.guarding.trusted ≡ false) × AreAllSc u
+so_blind t u line h answer (inl taken) is = absurd (never_blind t u taken.saying h answer taken.takes is)
+so_blind t u line h answer (inr (inl ignored)) is = (let e = sym ignored.heard_is ∙ is in cc)
+so_blind t u line h answer (inr (inr blind)) is = blind_sc t u line h answer blind
+
+pub blind_ends : BlindEndsTrust
+blind_ends t u line h is = so_blind t u line h.heard h.answer h.so is

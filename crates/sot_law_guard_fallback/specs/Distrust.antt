@@ -1,18 +1,21 @@
--- What a talk keeps to where its models are no longer trusted: a plant was told to be outside.
+-- What a talk keeps to whatever is said, and where its models are no longer trusted: a plant was told
+-- to be outside, or a line could not be taken.
 use Rattle.std.specs.Prelude.{ℕ, ℤ, Bool, true, false, not, ◌||◌, ◌==◌, ◌≡◌, ◌≢◌, List, [], ◌∷◌}
-use Rattle.std.specs.Prelude.{Some}
+use Rattle.std.specs.Prelude.{Some, ◌⊎◌}
 use Rattle.sot_lists.specs.Places.{At}
 use Rattle.sot_lang.specs.declared.tables.ModuleInfo.{ModuleInfo}
 use Rattle.sot_lang.specs.Tables.{Tables}
 use Rattle.sot_world.specs.declared.mode.Mode.TheVariants.{Sc}
-use Rattle.sot_world.specs.Configurations.{mode_of}
+use Rattle.sot_world.specs.Configurations.{mode_of, is_left}
 use Rattle.sot_world.specs.Steps.{published}
 use Rattle.sot_trace.specs.Lines.{writes_of}
 use Rattle.sot_guard.specs.declared.outside.Outside.{Outside}
 use Rattle.sot_guard.specs.declared.told.Told.{Told}
 use Rattle.sot_guard.specs.declared.told.Told.TheVariants.{Decided, Fired}
 use Rattle.sot_guard.specs.Outside.{IsFirstOutside}
-use Rattle.sot_guard_protocol.specs.declared.heard.Heard.TheVariants.{Go, Tick}
+use Rattle.sot_guard_protocol.specs.declared.heard.Heard.TheVariants.{Go, Tick, Ignored, Blind}
+use Rattle.sot_guard_protocol.specs.declared.aside.Aside.{Aside}
+use Rattle.sot_guard_protocol.specs.Asides.{aside_of}
 use Rattle.sot_guard_protocol.specs.Answers.{instant_lines, outside_lines}
 use Rattle.sot_guard_protocol.specs.Talks.{Talking, tables_of, time_of, scalars_of}
 use Rattle.sot_guard_protocol.specs.TalkLaws.{HearsLine, HearsLines}
@@ -62,17 +65,42 @@ pub record TellsOutside (t u : Talking) (answer : List (List ℕ)) : Type 0 wher
   pub first : IsFirstOutside (tables_of t) (scalars_of t) (points_of t) (points_of u) outside
   pub line : answer ≡ outside_lines (tables_of u) (time_of u) (Some outside)
 
--- the trust ends in no line but in a tick after which a plant is told to be outside
+-- the trust ends in no line but in a tick after which a plant is told to be outside, and in one that
+-- is told to be `blind`
 abbrev pub TrustEndsByAnOutside : Type 0
 TrustEndsByAnOutside =
     (t u : Talking) (line : List ℕ) (h : HearsLine t line u) → is_trusted t ≡ true
-    → is_trusted u ≡ false → (h.heard ≡ Tick) × TellsOutside t u h.answer
+    → is_trusted u ≡ false → ((h.heard ≡ Tick) × TellsOutside t u h.answer) ⊎ (h.heard ≡ Blind)
+
+-- whatever stands in a draft or in an input, the trust in the models stays as it was
+abbrev pub AsidesKeepTrust : Type 0
+AsidesKeepTrust =
+    (t u : Talking) (line : List ℕ) (aside : Aside) → aside_of line ≡ Some aside
+    → HearsLine t line u → is_trusted u ≡ is_trusted t
+
+-- a draft or an input that is told to be ignored changes nothing
+abbrev pub IgnoredLinesChangeNothing : Type 0
+IgnoredLinesChangeNothing =
+    (t u : Talking) (line : List ℕ) (h : HearsLine t line u) → h.heard ≡ Ignored → u ≡ t
+
+-- a line that is told to be `blind` ends the trust, and every module is in mode Sc
+abbrev pub BlindEndsTrust : Type 0
+BlindEndsTrust =
+    (t u : Talking) (line : List ℕ) (h : HearsLine t line u) → h.heard ≡ Blind
+    → (is_trusted u ≡ false) × AreAllSc u
 
 -- a tick after which a plant is told to be outside ends the trust, and every module is in mode Sc
 abbrev pub OutsideEndsTrust : Type 0
 OutsideEndsTrust =
     (t u : Talking) (line : List ℕ) (h : HearsLine t line u) → h.heard ≡ Tick → h.answer ≢ []
     → (is_trusted t ≡ true) × (is_trusted u ≡ false) × AreAllSc u
+
+-- where the trust ends, the safe node of each module is left to fire at once
+abbrev pub EndOfTrustAsksSafeNodes : Type 0
+EndOfTrustAsksSafeNodes =
+    (t u : Talking) (line : List ℕ) (h : HearsLine t line u) → is_trusted t ≡ true
+    → is_trusted u ≡ false → h.heard ≡ Tick → (m : ℕ) (a : ModuleInfo)
+    → At (tables_of t).modules m a → is_left u.hearing.guarding.at a.sc ≡ true
 
 -- modes stay Sc
 abbrev pub ModesStaySc : Type 0

@@ -2,9 +2,13 @@
 
 ghost use Rattle.std.specs.Global.{Global};
 ghost use Rattle.sot_law_guard_fallback.specs.Distrust.{
+  AsidesKeepTrust,
+  BlindEndsTrust,
   DistrustIsForGood,
   DistrustedInstantsAreSafe,
   DistrustedTalksAreInModeSc,
+  EndOfTrustAsksSafeNodes,
+  IgnoredLinesChangeNothing,
   ModesStaySc,
   OutsideEndsTrust,
   TrustEndsByAnOutside,
@@ -22,7 +26,8 @@ pub fn distrust_is_for_good()
     ensures { DistrustIsForGood }
 {}
 
-/// Where the trust ends in a line, its answer tells a plant to be outside its model.
+/// Where the trust ends in a line, its answer tells a plant to be outside its model, or that the
+/// line could not be taken.
 pub fn trust_ends_by_an_outside()
     ensures { TrustEndsByAnOutside }
 {}
@@ -30,6 +35,26 @@ pub fn trust_ends_by_an_outside()
 /// Where a tick is answered at all, the trust ends with it, and every module is in mode SC.
 pub fn outside_ends_trust()
     ensures { OutsideEndsTrust }
+{}
+
+/// Whatever a line says that begins as a draft or an input, the trust stays as it was.
+pub fn asides_keep_trust()
+    ensures { AsidesKeepTrust }
+{}
+
+/// A draft or an input that is ignored changes nothing.
+pub fn ignored_lines_change_nothing()
+    ensures { IgnoredLinesChangeNothing }
+{}
+
+/// Where a tick ends the trust, the safe node of each module is left to fire at once.
+pub fn end_of_trust_asks_safe_nodes()
+    ensures { EndOfTrustAsksSafeNodes }
+{}
+
+/// A line that could not be taken ends the trust, and every module is in mode SC.
+pub fn blind_ends_trust()
+    ensures { BlindEndsTrust }
 {}
 
 /// Every module stays in mode SC where the models are not trusted.

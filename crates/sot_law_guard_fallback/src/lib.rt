@@ -6,6 +6,7 @@
 mod laws;
 
 pub use laws::{
-    distrust_is_for_good, distrusted_instants_are_safe, distrusted_talks_are_in_mode_sc,
+    asides_keep_trust, blind_ends_trust, distrust_is_for_good, distrusted_instants_are_safe,
+    distrusted_talks_are_in_mode_sc, end_of_trust_asks_safe_nodes, ignored_lines_change_nothing,
     line_is_distrusted, modes_stay_sc, outside_ends_trust, trust_ends_by_an_outside,
 };

@@ -1,17 +1,12 @@
 //! The tests, by what they test, and what they share.
 
 mod calendar;
-mod forms;
-mod intervals;
-mod maker;
-mod points;
+mod json;
+mod parts;
 mod ports;
-mod regions;
-mod settled;
-mod squares;
 mod tally;
+mod tokens;
 mod turn;
-mod values;
 
 use std::fmt::Debug;
 use std::process::Abort;

@@ -1,5 +1,5 @@
-//! Tests of flights: what texts say as flights, what flights state, boards that are stepped, whole
-//! flights, and their traces.
+//! Tests of what no text can ask of flights: guests, boards that are stepped, and views that are
+//! committed late.
 //!
 //! The proofs of the crates below say what their functions answer. Here stand missions with what a
 //! person, or a program of somebody else, says of them, and each public function is called where it

@@ -1,18 +1,19 @@
-//! Missions that are flown. Expected texts are worked out by hand, or come from an independent
-//! program.
-mod boards;
-mod formats;
-mod readers;
-mod traces;
+//! Missions that are flown, with guests, event by event, and from views of before. Expected texts
+//! are worked out by hand, or come from an independent program.
+mod guests;
+mod parts;
+mod steps;
 mod views;
 
 ghost use Rattle.std.specs.Prelude.{IfSome};
 ghost use Rattle.sot_lang.specs.CertRules.{FitsTables};
 ghost use Rattle.sot_flight.specs.Fits.{FitsFlight};
+ghost use Rattle.sot_trace.specs.Words.{AreWords};
 ghost use Rattle.sot_workers.specs.Flying.{HasNoGuests};
 
 use sot_flight::Flight;
 use sot_lang::Typed;
+use sot_law_trace_unique::names_are_words;
 use sot_ports::Process;
 use sot_report::{Loaded, load};
 use sot_sections::Need;
@@ -33,40 +34,19 @@ pub fn same<A: Debug + Drop, T: PartialEq + Debug + Drop>(
     assert_eq!(rt; got, wanted, "{asked:?}");
 }
 
-// A vehicle on a line whose nodes have these timings, with its certificate up to the cells' head.
-pub fn vehicle(rt: &impl Abort, alloc: Global, fast: &str, slow: &str, head: &str) -> String {
-    format!(in alloc;
-        "topic cmd: int[-2..2] = 0;
-plant pos {{ state x: int; input cmd; noise w: int[-1..1]; next x = (x + cmd) + w; }}
-external fast {fast} {{ reads pos; writes cmd; }}
-node slow {slow} {{
+// A vehicle on a line at most one of whose nodes is due in any instant.
+pub const APART: &str = "topic cmd: int[-2..2] = 0;
+plant pos { state x: int; input cmd; noise w: int[-1..1]; next x = (x + cmd) + w; }
+external fast period 4 offset 2 { reads pos; writes cmd; }
+node slow period 4 offset 1 {
   reads pos;
   writes cmd;
-  do {{ publish cmd = if pos.x > 10 then -2 else if pos.x < -10 then 2 else 0; }}
-}}
-module nav {{ ac fast; sc slow; period 4 offset 0; plant pos; safe [-40..40]; safer [-10..10]; }}
+  do { publish cmd = if pos.x > 10 then -2 else if pos.x < -10 then 2 else 0; }
+}
+module nav { ac fast; sc slow; period 4 offset 0; plant pos; safe [-40..40]; safer [-10..10]; }
 %certificate
-{{{head},\"modules\":{{\"nav\":{{\"closed\":[[[-40,-11]],[[-10,10]],[[11,40]]],\"reach\":[[[-10,10]]]}}}}}}
-"
-    )
-    .expect(rt, "memory")
-}
-
-// The vehicle with offsets, so that at most one node is due in any instant.
-pub fn apart(rt: &impl Abort, alloc: Global) -> String {
-    vehicle(
-        rt,
-        alloc,
-        "period 4 offset 2",
-        "period 4 offset 1",
-        "\"format\":1",
-    )
-}
-
-// The vehicle all of whose offsets are 0.
-pub fn together(rt: &impl Abort, alloc: Global, head: &str) -> String {
-    vehicle(rt, alloc, "period 4 offset 0", "period 2 offset 0", head)
-}
+{\"format\":1,\"modules\":{\"nav\":{\"closed\":[[[-40,-11]],[[-10,10]],[[11,40]]],\"reach\":[[[-10,10]]]}}}
+";
 
 // A node that copies what comes from outside.
 pub const RELAY: &str = "environment topic e: int[0..9] = 0;
@@ -76,18 +56,26 @@ node copy period 6 offset 0 { reads e; writes m; do { publish m = e; } }
 {\"format\":1,\"modules\":{}}
 ";
 
-// A vehicle on which two gusts blow, all of whose offsets are 0.
-pub const GUSTY: &str = "topic cmd: int[-2..2] = 0;
-plant pos { state x: int; input cmd; noise u: int[-1..1], w: int[-1..1]; next x = ((x + cmd) + u) + w; }
-external fast period 4 offset 0 { reads pos; writes cmd; }
-node slow period 4 offset 0 {
+// A vehicle whose advanced node has a guest and reads what comes from outside, and whose safe node
+// is not due in the first tick.
+pub const GUIDED: &str = "environment topic e: int[0..9] = 0;
+topic cmd: int[-2..2] = 0;
+plant pos { state x: int; input cmd; noise w: int[-1..1]; next x = (x + cmd) + w; }
+external fast period 4 offset 0 { reads pos, e; writes cmd; }
+node slow period 4 offset 2 {
   reads pos;
   writes cmd;
   do { publish cmd = if pos.x > 10 then -2 else if pos.x < -10 then 2 else 0; }
 }
-module nav { ac fast; sc slow; period 4 offset 0; plant pos; safe [-200..200]; safer [-10..10]; }
+module nav { ac fast; sc slow; period 4 offset 0; plant pos; safe [-40..40]; safer [-10..10]; }
 %certificate
-{\"format\":1,\"modules\":{\"nav\":{\"closed\":[[[-200,-11]],[[-10,10]],[[11,200]]],\"reach\":[[[-10,10]]]}}}
+{\"format\":1,\"modules\":{\"nav\":{\"closed\":[[[-40,-11]],[[-10,10]],[[11,40]]],\"reach\":[[[-10,10]]]}}}
+%flight
+";
+
+// One tick, with an input.
+pub const ONE_TICK: &str =
+    "{\"crew\":{\"fast\":{\"index\":0,\"kind\":\"guest\"}},\"format\":1,\"horizon\":1,\"inputs\":[{\"at\":0,\"topic\":\"e\",\"value\":[5]}],\"start\":{\"pos\":[3]},\"sway\":{\"pos\":{\"kind\":\"seed\",\"seed\":42,\"stream\":54}}}
 ";
 
 // A flight of the vehicle.
@@ -109,11 +97,13 @@ pub fn with_flight(rt: &impl Abort, alloc: Global, mission: &str, flight: &str) 
     format!(in alloc; "{mission}%flight\n{flight}\n").expect(rt, "memory")
 }
 
-// What a mission says. It has a flight, which fits, and at most 16 MiB.
+// What a mission says. Its names are words. It has a flight, which fits, and at most 16 MiB.
 pub fn loaded<'t>(rt: &impl Abort, alloc: Global, text: &'t str, guests: u32) -> Loaded<'t>
+    ensures words { AreWords result.program }
     ensures cert { FitsTables result.program result.cert }
     ensures flight { IfSome result.flight (λ f. FitsFlight result.program guests f) }
 {
+    names_are_words();
     if text.len() > LONGEST {
         panic!(rt; "a text that is too long");
     }

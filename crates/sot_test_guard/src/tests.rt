@@ -8,7 +8,6 @@ mod bodies;
 mod lines;
 mod said;
 mod spools;
-mod talks;
 
 use sot_law_trace_unique::names_are_words;
 use sot_ports::Process;

@@ -3,7 +3,6 @@
 mod doubles;
 mod drive;
 mod histories;
-mod long_lists;
 mod pairs;
 mod verdicts;
 mod worked_nodes;

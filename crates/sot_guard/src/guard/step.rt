@@ -14,14 +14,15 @@ ghost use Rattle.sot_world.specs.Events.{IsTypedInput, slot_count};
 ghost use Rattle.sot_world.specs.Outcomes.{NodeFired};
 ghost use Rattle.sot_world.specs.StepOutcomes.{IsFiring};
 ghost use Rattle.sot_guard.specs.Changes.{DecidesWhere, FiresCode, MovesTo, GoesOn, Withdraws};
+ghost use Rattle.sot_guard.specs.Changes.{Distrusts, AsksSafeNodes};
 
 use super::Guard;
 use crate::decide::mode_where;
-use crate::due::{leave_decisions, leave_nodes};
+use crate::due::{leave_decisions, leave_nodes, leave_safe_nodes};
 use crate::enabled::is_enabled;
 use crate::fire::run;
 use crate::outside::{Outside, outside_where};
-use crate::put::{is_still, put_points, put_safe_unless};
+use crate::put::{is_still, put_points, put_safe, put_safe_unless};
 use sot_box::Point;
 use sot_lang::Draft;
 use sot_world::{Firing, Mode, first_slots, publish_if, write};
@@ -110,6 +111,22 @@ impl<'a> Guard<'a> {
             draft: own,
             enabled,
         }
+    }
+
+    /// The models are trusted no more: every module is in mode Sc from now on. Nothing else changes.
+    pub fn withdraw(&mut self)
+        ensures { Distrusts self.old self.new }
+    {
+        put_safe(&mut self.modes);
+        self.trusted = false;
+    }
+
+    /// The safe node of each module is left to fire, whether it is due or not.
+    pub fn ask_safe_nodes(&mut self)
+        ensures { AsksSafeNodes self.old self.new }
+    {
+        let p = self.accepted.typed();
+        leave_safe_nodes(&p.modules, &mut self.left);
     }
 
     /// After a tick, at which nothing was left, each plant is observed at a point. Where the models

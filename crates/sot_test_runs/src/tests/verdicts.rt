@@ -18,7 +18,7 @@ use std::alloc::{AllocError, Global};
 use std::process::Abort;
 use std::thread::Threads;
 
-pub(super) type Answer = Result<(), Refusal>;
+type Answer = Result<(), Refusal>;
 
 pub(super) fn side(lo: i64, hi: i64) -> Interval
     requires { lo ≤ℤ hi }
@@ -49,7 +49,7 @@ fn line_answer(rt: &(impl Threads + Sync), alloc: Global, c: &Cert) -> Result<An
 }
 
 // Whether the vehicle on a line is accepted with these cells.
-pub(super) fn answer(
+fn answer(
     rt: &(impl Threads + Sync),
     alloc: Global,
     closed: &[Interval],
@@ -80,7 +80,7 @@ fn at(x: i64) -> Point {
     Point::of(&[x]).unwrap()
 }
 
-pub(super) fn closed_leaves(cell: u32, tick: u32, lo: i64, hi: i64) -> Answer
+fn closed_leaves(cell: u32, tick: u32, lo: i64, hi: i64) -> Answer
     requires { lo ≤ℤ hi }
 {
     refused(Refusal::ClosedLeaves {
@@ -119,7 +119,7 @@ fn reach_gap(x: i64) -> Answer {
 }
 
 // With these cells the check of the vehicle answers this.
-pub(super) fn judges(
+fn judges(
     rt: &(impl Abort + Threads + Sync),
     alloc: Global,
     closed: &[Interval],
@@ -139,11 +139,6 @@ fn cells_are_accepted_or_refused(rt: HostRuntime) {
     judges(&rt, alloc, &all, &[side(-10, 9)], reach_gap(10));
     let leaves = reach_leaves(8, -41, 41);
     judges(&rt, alloc, &all, &[side(-17, 17)], leaves);
-}
-
-#[test]
-fn cells_that_leave_or_lack_are_refused(rt: HostRuntime) {
-    let alloc = rt.alloc();
     let ten = [side(-10, 10)];
     let leaves = closed_leaves(0, 1, -43, 43);
     judges(&rt, alloc, &[side(-40, 40)], &ten, leaves);

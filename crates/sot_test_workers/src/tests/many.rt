@@ -3,11 +3,53 @@ ghost use Rattle.std.specs.Prelude.{◌≡◌, vec_len};
 
 use super::{drafts_of, same, trace_of};
 use crate::keeper::{Keeper, Kept};
-use sot_test_texts_shared::SWITCHED;
 use sot_workers::NodeList;
 use std::alloc::{AllocError, Global};
 use std::fmt::Write;
 use std::process::Abort;
+
+// The trace of twenty ticks of a vehicle on a line, in which its module switches to the safe node at
+// 12 and back at 20, as a person worked it out.
+const SWITCHED: &str = "soter trace 1
+start pos 0
+0 decide nav ac
+0 tick pos(0)=0
+1 idle slow cmd=0
+1 tick pos(0)=0
+2 fire fast cmd=2
+2 tick pos(0)=2
+3 tick pos(0)=4
+4 decide nav ac
+4 tick pos(0)=6
+5 idle slow cmd=0
+5 tick pos(0)=8
+6 fire fast cmd=2
+6 tick pos(0)=10
+7 tick pos(0)=12
+8 decide nav ac
+8 tick pos(0)=14
+9 idle slow cmd=-2
+9 tick pos(0)=16
+10 fire fast cmd=2
+10 tick pos(0)=18
+11 tick pos(0)=20
+12 decide nav sc
+12 tick pos(0)=22
+13 fire slow cmd=-2
+13 tick pos(0)=20
+14 idle fast cmd=2
+14 tick pos(0)=18
+15 tick pos(0)=16
+16 decide nav sc
+16 tick pos(0)=14
+17 fire slow cmd=-2
+17 tick pos(0)=12
+18 idle fast cmd=2
+18 tick pos(0)=10
+19 tick pos(0)=8
+20 decide nav ac
+end 20 events 36 refused 0
+";
 
 // A vehicle whose first node is flown by the second guest, and no other node by a guest.
 const VEHICLE: &str = "topic cmd: int[-2..2] = 0;

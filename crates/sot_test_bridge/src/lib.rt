@@ -1,5 +1,0 @@
-//! Tests of a bridge: what the top call answers, over sources and sinks in memory.
-#![tactic(auto)]
-
-#[cfg(test)]
-mod tests;

@@ -1,4 +1,0 @@
-//! Tests of formulas.
-
-mod reads;
-mod steps;

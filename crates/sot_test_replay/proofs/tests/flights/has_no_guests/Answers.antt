@@ -1,5 +1,0 @@
-use Rattle.std.proofs.Common.{arith}
-use Rattle.sot_test_replay.proofs.tests.flights.has_no_guests.Goals as goal
-
-pub returns : goal.returns
-returns c = λ n i at. absurd (omega (arith, c.requires.guests_there n i at))
