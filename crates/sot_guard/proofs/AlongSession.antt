@@ -1,6 +1,8 @@
 -- A session that is another one.
-use Rattle.std.proofs.Common.{◌≡◌, ℕ, zero, suc, ℤ, true, List, [], ◌∷◌, Option, map, refl, ap, ◌∙◌, subst}
-use Rattle.std.specs.Prelude.{slice_set, slice_index_or}
+use Rattle.std.proofs.Common.{◌≡◌, ℕ, zero, suc, ℤ, Bool, true, false, List, [], ◌∷◌, Option, None, Some, map, refl, ap, ◌∙◌, subst}
+use Rattle.std.specs.Prelude.{slice_set, slice_index_or, MatchOption, is_some}
+use Rattle.sot_guard.specs.declared.outside.Outside.{Outside}
+use Rattle.sot_guard.specs.Changes.{AsksSafeNodes}
 use Rattle.sot_guard.specs.Guarding.{Guarding}
 use Rattle.sot_guard.specs.Hearing.{Hearing, guard_at, hearing_at}
 
@@ -29,3 +31,13 @@ all_are (x ∷ xs) d (suc n) = all_are xs d n
 
 pub items_are : {A B : Type 0} (ys : List B) (xs : List A) (d : B) (n : ℕ) → ys ≡ map (λ x. d) xs → slice_index_or ys n d ≡ d
 items_are ys xs d n same = ap (λ l. slice_index_or l n d) same ∙ all_are xs d n
+
+-- the safe nodes are asked where a plant was told to be outside
+pub asked_so : (o : Option Outside) (moved k : Guarding) (b : Bool) → b ≡ is_some o → (b ≡ true → AsksSafeNodes moved k) → (b ≡ false → k ≡ moved)
+    → MatchOption o (k ≡ moved) (λ x. AsksSafeNodes moved k)
+asked_so None moved k b is asks same = same is
+asked_so (Some o) moved k b is asks same = asks is
+
+pub asked_accepted : (o : Option Outside) (moved k : Guarding) → MatchOption o (k ≡ moved) (λ x. AsksSafeNodes moved k) → k.accepted ≡ moved.accepted
+asked_accepted None moved k same = ap (λ (x : Guarding). x.accepted) same
+asked_accepted (Some o) moved k asks = ap (λ (x : Guarding). x.accepted) asks.rest

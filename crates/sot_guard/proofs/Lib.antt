@@ -8,3 +8,4 @@ pub mod Instants
 pub mod LineObserved
 pub mod Talks
 pub mod AlongSession
+pub mod SafeNodes

@@ -219,9 +219,7 @@ impl<'a> Session<'a> {
         }
         let outside = self.guard.observe(points);
         self.turn = SessionEvent::Instant;
-        if outside.is_some() {
-            self.guard.ask_safe_nodes();
-        }
+        self.guard.ask_safe_nodes_if(outside.is_some());
         Ok(outside)
     }
 
@@ -245,6 +243,7 @@ impl<'a> Session<'a> {
         ensures passes { PassesUnseen self.old self.new }
         ensures room { length room.new ≡ length room.old }
     {
+        self.guard.reveal_invariant();
         self.guard.put_states(room);
         let _ = self.guard.observe(room);
         self.guard.withdraw();

@@ -1,16 +1,12 @@
 -- What belongs to single answers.
-use Rattle.std.proofs.Common.{◌≡◌, ℕ, ◌<◌, ◌≤◌, ℤ, Bool, false, List, [], ◌++◌, Ok, Err, inl, inr, length, refl, append_assoc, arith}
+use Rattle.std.proofs.Common.{◌≡◌, ℕ, ◌≤◌, Bool, false, List, [], ◌++◌, Ok, Err, inl, inr, length, refl, append_assoc, arith}
 use Rattle.std.specs.Prelude.{◌≢◌, Result, IfOk, String}
 use Rattle.std.proofs.Common.{Global}
 use Rattle.std.proofs.KnownBytes.{Appends-nil}
 use Rattle.std.specs.declared.alloc.AllocError.{AllocError}
 use Rattle.sot_sections.specs.declared.mission.Need.TheVariants.{Check}
 use Rattle.sot_sections.specs.declared.mission.SectionFault.{SectionFault}
-use Rattle.std.proofs.lemmas.Option.{slice_get_within}
-use Rattle.sot_lists.specs.Places.{At}
-use Rattle.sot_lang.specs.declared.tables.ModuleInfo.{ModuleInfo}
 use Rattle.sot_lang.specs.Tables.{Tables}
-use Rattle.sot_lang.specs.TableRules.{MeetsTableRules}
 use Rattle.sot_lang.specs.declared.cert.Cert.{Cert}
 use Rattle.sot_tube.specs.Verdict.{verdict}
 use Rattle.sot_tube.specs.Refusals.{Refusal}

@@ -1,7 +1,7 @@
 //! A talk with a robot, line by line.
 //!
-//! An [`TalkOpening`] hears where each plant was observed first. It becomes a [`Talk`], which hears a
-//! line of the robot at a time, and puts the lines that it is answered with.
+//! A [`TalkOpening`] hears where each plant was observed first. It becomes a [`Talk`], which hears a
+//! line of the robot at a time, and puts the lines that it is answered with. No line ends it.
 #![tactic(auto)]
 
 mod aside;

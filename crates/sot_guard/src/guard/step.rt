@@ -1,6 +1,6 @@
 //! What a guard does in an instant, and what it makes of the next observations.
 
-ghost use Rattle.std.specs.Prelude.{◌≡◌, ◌<◌, length, true, List, None, take, MatchOption};
+ghost use Rattle.std.specs.Prelude.{◌≡◌, ◌<◌, length, true, false, List, None, take, MatchOption};
 ghost use Rattle.sot_lists.specs.Places.{At};
 ghost use Rattle.sot_lang.specs.declared.act.Act.{Act};
 ghost use Rattle.sot_lang.specs.declared.tables.TopicInfo.{TopicInfo};
@@ -121,12 +121,25 @@ impl<'a> Guard<'a> {
         self.trusted = false;
     }
 
-    /// The safe node of each module is left to fire, whether it is due or not.
+    /// Where the models are not trusted: the safe node of each module is left to fire, whether it
+    /// is due or not.
     pub fn ask_safe_nodes(&mut self)
+        requires { self.old.trusted ≡ false }
         ensures { AsksSafeNodes self.old self.new }
     {
         let p = self.accepted.typed();
         leave_safe_nodes(&p.modules, &mut self.left);
+    }
+
+    /// The safe nodes are asked where the trust has ended, and else nothing is done.
+    pub(crate) fn ask_safe_nodes_if(&mut self, ended: bool)
+        requires { ended ≡ true → self.old.trusted ≡ false }
+        ensures asks { ended ≡ true → AsksSafeNodes self.old self.new }
+        ensures same { ended ≡ false → self.new ≡ self.old }
+    {
+        if ended {
+            self.ask_safe_nodes();
+        }
     }
 
     /// After a tick, at which nothing was left, each plant is observed at a point. Where the models
