@@ -79,6 +79,10 @@ class Axis:
         number = min(max(number, self.lo - self.half), self.hi + self.half)
         return self.begin + (number - self.lo + self.half) * (self.end - self.begin) / self.width
 
+    def edge(self, number):
+        """The pixel of the edge below a number, within the axis."""
+        return self.at(number - self.half)
+
     def side(self, lo, hi):
         """Where a range begins and how long it is, at least a pixel."""
         ends = sorted((self.at(lo - self.half), self.at(hi + self.half)))
@@ -104,6 +108,41 @@ class Axis:
 def next_step(step):
     """1, 2, 5, 10, 20, 50 and so on."""
     return step * 5 // 2 if str(step)[0] == '2' else step * 2
+
+
+def outline(boxes):
+    """The edges of all that boxes of two sides hold, in whole numbers: level ones as (y, x, x), upright ones as (x, y, y). A side lo..hi goes from lo to hi + 1."""
+    cuts = sorted({lo for (lo, _), _ in boxes} | {hi + 1 for (_, hi), _ in boxes})
+    level, upright, before, open_at = [], [], [], {}
+    for begin, end in zip(cuts, cuts[1:] + [None]):
+        here = merged([(lo, hi + 1) for (left, right), (lo, hi) in boxes if end is not None and left <= begin and end <= right + 1])
+        upright += [(begin, lo, hi) for lo, hi in differing(before, here)]
+        edges = {edge for side in here for edge in side}
+        for edge in list(open_at):
+            if edge not in edges:
+                level.append((edge, open_at.pop(edge), begin))
+        for edge in edges:
+            open_at.setdefault(edge, begin)
+        before = here
+    return level, upright
+
+
+def merged(sides):
+    """Half-open ranges as the fewest that hold the same numbers."""
+    found = []
+    for lo, hi in sorted(sides):
+        if found and lo <= found[-1][1]:
+            found[-1] = (found[-1][0], max(found[-1][1], hi))
+        else:
+            found.append((lo, hi))
+    return found
+
+
+def differing(one, other):
+    """Where one list of ranges has numbers that the other has not."""
+    ends = sorted({end for side in one + other for end in side})
+    inside = lambda sides, at: any(lo <= at < hi for lo, hi in sides)
+    return merged([(lo, hi) for lo, hi in zip(ends, ends[1:]) if inside(one, lo) != inside(other, lo)])
 
 
 class Sheet:

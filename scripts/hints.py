@@ -14,18 +14,22 @@ import sys
 
 sys.dont_write_bytecode = True
 import doctables
+import formulas
 import missiontext
+import runs
+import syntax_hints
+import talk_hints
+import type_hints
+import value_hints
+from spelled import Reader, published
 from missiontext import NotRead, box_words, decimal, point_words, whole_numbers
+from wording import WIDTH, caret, offset_of_line, region_words, shown, ticks, tuple_words
 
-WIDTH, SECONDS, LIMIT = 100, 20, 16777216
+SECONDS, LIMIT = 20, 16777216
 NEEDED = {'check': ('certificate',), 'recover': ('certificate',), 'fly': ('certificate', 'flight'), 'watch': ('certificate', 'flight'), 'replay': ('certificate', 'flight', 'trace')}
 KEYWORDS = set('topic environment int fix bool true false plant state input sees noise next node external period offset reads writes local do publish if then else '
                'repeat module ac sc safe safer none and or not min max abs clamp rescale'.split())
 CLAUSES = {'state', 'input', 'sees', 'noise', 'next', 'period', 'offset', 'reads', 'writes', 'local', 'do', 'ac', 'sc', 'plant', 'safe', 'safer'}
-KEYS = set('format jitter modules closed reach horizon start inputs sway crew at topic value kind values drafts seed stream index'.split())
-# the construct that a word begins, by its name in the grammar
-RULES = {'topic': 'topic', 'plant': 'plant', 'noise': 'plant', 'node': 'coded', 'external': 'external', 'period': 'timing', 'module': 'module', 'safe': 'region', 'safer': 'region',
-         'do': 'block', 'publish': 'stmt', 'if': 'stmt', 'repeat': 'stmt', ':=': 'stmt'}
 # words with a name behind them
 NAMED = {'topic', 'plant', 'node', 'external', 'module', 'local', 'publish', 'state', 'noise'}
 COMPARISONS = {'<', '<=', '>', '>=', '==', '!='}
@@ -34,8 +38,8 @@ COMPARISONS = {'<', '<=', '>', '>=', '==', '!='}
 class Asked:
     """What was asked, and what came."""
 
-    def __init__(self, command, text, answer, program):
-        self.command, self.answer, self.program = command, answer, program
+    def __init__(self, command, text, answer, program, words=(), whole=''):
+        self.command, self.answer, self.program, self.words, self.whole = command, answer, program, words, whole or answer
         self.sections, self.advice, self.kept = missiontext.Sections(text), doctables.Advice(), None
         # what `format`, `certify` and `regions` read is a program to its end, whatever begins its lines
         self.source = text if command in ('format', 'certify', 'regions') else self.sections.parts['program']
@@ -66,45 +70,6 @@ def ask(program, command, text, *words):
         return done.returncode, done.stdout.decode('latin-1')
     except (OSError, subprocess.TimeoutExpired):
         return None, ''
-
-
-def offset_of_line(text, number):
-    """Where a line begins."""
-    at = 0
-    for _ in range(number - 1):
-        at = text.find('\n', at) + 1
-    return at
-
-
-# --- words for points, boxes and places ---------------------------------------------------------------------------
-
-def shown(text):
-    """A piece of the input as a terminal may show it."""
-    said = text.encode('latin-1').decode('utf-8', 'replace')
-    return ''.join(letter if letter.isprintable() else ' ' if letter == '\t' else '?' for letter in said)
-
-
-def caret(line, number, column):
-    """A line of the input with a mark under one column, as rustc prints it. Both count from 1, columns in bytes."""
-    begin = max(0, column - 1 - WIDTH * 2 // 3)
-    before, piece = shown(line[begin:column - 1]), shown(line[begin:begin + WIDTH])
-    lead = '.. ' if begin else ''
-    tail = ' ..' if len(line) > begin + WIDTH else ''
-    margin = ' ' * len(str(number))
-    return [f'{number} | {lead}{piece}{tail}', f'{margin} | {" " * len(lead + before)}^']
-
-
-def region_words(plant, boxes):
-    said = ' or '.join(box_words(plant, box) for box in boxes[:3]) or 'nowhere'
-    return said + (f' or in {len(boxes) - 3} boxes more' if len(boxes) > 3 else '')
-
-
-def tuple_words(point):
-    return '(' + ', '.join(map(str, point)) + ')'
-
-
-def ticks(count):
-    return f'{count} tick' + ('' if count == 1 else 's')
 
 
 def distance(point, cell):
@@ -159,6 +124,10 @@ def about_code(asked, said):
     return caret(missiontext.line_of(asked.source, said['line']), said['line'], said['column'])
 
 
+def about_trapping_code(asked, said):
+    return about_code(asked, said) + type_hints.trap_lines(asked, said)
+
+
 def about_no_cells(asked, said):
     return ['`./soter certify` makes cells: sed \'/^%/,$d\' my.mission | ./soter certify']
 
@@ -172,7 +141,7 @@ ABOUT = {
     '7': lambda asked, said: about_gap(asked, said, 'reach', 'safer'),
     '8': lambda asked, said: about_leaving(asked, said, 'reach', 'with any commands'),
     '9': lambda asked, said: about_trap(asked, said, 'reach'),
-    '14': about_code,
+    '14': about_trapping_code,
     '15': about_no_cells,
 }
 
@@ -180,7 +149,11 @@ ABOUT = {
 def about_condition(asked):
     """A mission that fails one of the fifteen conditions."""
     said = missiontext.refusal_of(asked.answer)
-    return ABOUT[said['no']](asked, said) if said['no'] in ABOUT else []
+    run = [LOOKS] if said['no'] in ('5', '6', '8', '9') else []
+    return (ABOUT[said['no']](asked, said) if said['no'] in ABOUT else []) + run
+
+
+LOOKS = '`./soter why < FILE` looks for a run that shows how it is lost'
 
 
 def about_start(asked):
@@ -199,14 +172,40 @@ def about_certify(asked):
         plant, region = asked.plant_of(words[3]), 'safe' if words[4] == 'closed' else 'safer'
         numbers = asked.answer.partition('point ')[2]
         lines.insert(0, f'{numbers} is {point_words(plant, whole_numbers(numbers))}, a state of `{region}` of {words[3]}')
+        lines.append(LOOKS.replace('why', 'why certify'))
     return lines
 
 
 def about_recover(asked):
-    """A module without a rank."""
+    """A module without a rank: whether its safe node stops, a disturbance holds the plant away, or nothing of the kind was found."""
     words, numbers = asked.answer.split(), asked.answer.partition('point ')[2]
     plant = asked.plant_of(words[3])
-    return [f'{numbers} is {point_words(plant, whole_numbers(numbers))}, a state of `safe` of {words[3]}']
+    lines = [f'{numbers} is {point_words(plant, whole_numbers(numbers))}, a state of `safe` of {words[3]}']
+    situation = runs.situation_of(asked.source, words[3])
+    how = runs.stays_away(situation, whole_numbers(numbers))
+    return lines + [RECOVERS[how].format(node=situation.node.name, plant=plant.name)]
+
+
+RECOVERS = {
+    'stops': 'from there `{node}` does not bring {plant} back, also without a disturbance: it stops, or goes round, outside `safer`. No cells can help: let `{node}` steer into `safer`, '
+             'or widen `safer`; a node that only stops is safe all the same',
+    'noise': 'from there a disturbance that always pushes one way holds {plant} outside `safer` against `{node}`. No cells can help: let `{node}` push more strongly than the disturbance, or widen `safer`',
+    '': 'the runs that were tried from there come back, so the cells may be too large: make the closed cells smaller, as wide as a hold takes the plant nearer',
+}
+
+
+def about_regions(asked):
+    """A module without regions: a safe node that does not always publish, if that may be the reason."""
+    found = re.match(r'refused regions module (\S+) safe', asked.answer)
+    if not found:
+        return []
+    module, reader = asked.tables().modules[found[1]], Reader(asked.source)
+    node = next(owner for owner in reader.owners if owner.name == module.sc)
+    surely, _ = published(node.body)
+    writes = [name for topic in node.writes for name in (missiontext.scalar_name(asked.tables().topics[topic], field) for field in asked.tables().topics[topic].fields)]
+    silent = [name for name in writes if name not in surely]
+    lines = [f'`{node.name}` does not always publish `{name}`: where it drafts nothing, the last command stays, and that is taken to be any of its type; give each `if` an `else` that publishes' for name in silent[:1]]
+    return lines + ([] if asked.answer.endswith('TooMany') else [LOOKS])
 
 
 def about_replay(asked):
@@ -326,32 +325,7 @@ def about_json(asked):
         return []
     line, column, why = found
     lines = caret(missiontext.line_of(text, line), first + line - 1, column)
-    return lines + ([f'line {first + line - 1}, column {column}: {why}'] if why else []) + more_of_value(asked, family, path.split('/')[1:], kind)
-
-
-def more_of_value(asked, family, path, kind):
-    """What the answer leaves out of a faulty value: the missing key, the keys that are none, how a number is written."""
-    if kind == 'Missing':
-        return [f'the object there has no key `{path[-1]}`']
-    if kind == 'Unknown' and path[-1] != 'topic':
-        value = missiontext.json_of(asked.sections.parts[family])
-        for key in path if path != [''] else ():
-            value = value[int(key)] if isinstance(value, list) else value[key]
-        names = asked.tables().modules if family == 'certificate' else {**asked.tables().plants, **asked.tables().nodes}
-        odd = [shown(key)[:64] for key in value if key not in names and key not in KEYS]
-        return [f'no such key belongs there: {", ".join(odd[:5])}'] if odd else []
-    if kind == 'NotWhole' and path[0] == 'modules' and len(path) == 6:
-        return [in_mantissas(asked.plant_of(path[1]), int(path[4]))]
-    if kind == 'NotWhole' and path[0] == 'start' and len(path) == 3:
-        return [in_mantissas(asked.tables().plants[path[1]], int(path[2]))]
-    return []
-
-
-def in_mantissas(plant, state):
-    scale = plant.scales[state]
-    if scale == 0:
-        return f'this number is of {plant.states[state]}, which has no decimals: write it without a point'
-    return f'this number is of {plant.states[state]}, a state of {scale} decimals: {decimal(125, scale)} is written 125'
+    return lines + ([f'line {first + line - 1}, column {column}: {why}'] if why else []) + value_hints.named_value(asked, family, path.split('/')[1:], kind)
 
 
 def value_to_do(asked, family, key):
@@ -455,17 +429,28 @@ def bridge_hint(text, words, answer):
 
 # --- talks with a robot -------------------------------------------------------------------------------------------
 
-def guard_hint(status, answer):
-    """The lines to say about the last line of `soter_guard`: what to do, without the text, which is not kept."""
+def guard_hint(status, answer, text):
+    """The lines to say about the last line of `soter_guard`. `text` is what it heard, as far as that was kept."""
     if status == '1' and answer.startswith('end '):
         return ['a plant was observed where its model does not allow it to be: the line `outside` tells the tick, the interval and the number (docs/ROBOT.md, When `outside` comes)']
-    asked = Asked('guard', '', answer, None)
-    for pattern, family, _, _ in FAMILIES:
-        said = pattern.match(answer)
-        if said:
-            alone = ['`./soter check` on the mission alone shows where'] if family not in ('observed', 'start') else []
-            return to_do(asked, family, said[1]) + alone
-    return []
+    mission, _, heard = text.partition('\n%observed')
+    asked = Asked('check', mission + '\n', answer, None)
+    said = re.match(r'fault observed line (\d+) (\w+)', answer)
+    if said:
+        return heard_lines(asked, heard.split('\n')[1:], int(said[1]), said[2]) + to_do(asked, 'observed', said[2])
+    return hint_of(asked)
+
+
+def heard_lines(asked, lines, number, kind):
+    """The robot's line that is at fault, and of one that says nothing the column."""
+    if number > len(lines) or (number == len(lines) and lines[-1] == ''):
+        return []
+    line = lines[number - 1].rstrip('\r')
+    try:
+        found = talk_hints.lines_about(line, number, asked.tables()) if kind == 'NotALine' else []
+    except (NotRead, LookupError, ValueError):
+        found = []
+    return found or [f'{number} | {shown(line)[:WIDTH]}']
 
 
 # --- all of them --------------------------------------------------------------------------------------------------
@@ -478,16 +463,81 @@ def to_do(asked, family, key):
 
 
 def token_to_do(asked, family, key):
-    """The usual cause, or the rule of the grammar that the place is in, with the row."""
-    return cause_of(asked) or rule_of(asked, key) + to_do(asked, family, key)
+    """What is meant, or the usual cause; the innermost rule of the grammar at the place; and the row where neither is known."""
+    if key != 'Token':
+        return cause_of(asked) or to_do(asked, family, key)
+    before, after, _ = tokens_around(asked)
+    meant = syntax_hints.meant(before, after, asked.source)
+    rule = asked.advice.rule(syntax_hints.rule_name(before))
+    ruled = [f'the grammar there: {rule}'] if rule else []
+    if meant:
+        return [f'{meant} ({doctables.LANGUAGE}, The grammar)'] + ruled
+    return cause_of(asked) or ruled + to_do(asked, family, key)
 
 
-def rule_of(asked, key):
-    """The rule of the last construct that begins before the place."""
-    before = tokens_around(asked)[0]
-    opened = [RULES[token] for token in before if token in RULES]
-    rule = asked.advice.rule(opened[-1]) if key == 'Token' and opened else ''
-    return [f'the grammar there: {rule}'] if rule else []
+def about_typing(asked):
+    """The place, and what is named there."""
+    return about_place(asked) + type_hints.named_fault(asked)
+
+
+def typing_to_do(asked, family, key):
+    """The row of the page; where the names were told, its place alone."""
+    try:
+        named = type_hints.named_fault(asked)
+    except (NotRead, LookupError, TypeError, ValueError):
+        named = []
+    return [f'see {asked.advice.to_do(family, key)[1]}'] if named else to_do(asked, family, key)
+
+
+def about_section_or_program(asked):
+    """A section that is missing; of a program alone, that a certificate can be made of it."""
+    lines = about_section(asked)
+    if asked.command in ('check', 'recover') and not asked.sections.heads and asked.source.strip() and asked.answer.endswith('Missing'):
+        lines.append(f'this is a program alone: `./soter regions < FILE` finds regions and makes the certificate, and `./soter certify < FILE` makes one for the regions that it has; '
+                     'both tell a fault of the program first, which `check` does not reach')
+    return lines
+
+
+# --- formulas -----------------------------------------------------------------------------------------------------
+
+def about_formula(asked):
+    """Where the word is no formula, or which name or number of it is at fault."""
+    text, kind = asked.words[0], asked.answer.split()[2]
+    try:
+        formula = formulas.formula_of(text)
+    except formulas.BadFormula as why:
+        return caret(text, 1, why.at + 1) + [f'column {why.at + 1}: {why}']
+    for said in formulas.comparisons(formula):
+        wrong = said.ref not in formulas.scales_of(asked.tables()) if kind == 'Unknown' else formulas.scale_words(said, asked.tables())
+        if wrong:
+            return caret(text, 1, said.at + 1) + [formulas.unknown_words(said.ref, asked.tables()) if kind == 'Unknown' else wrong]
+    return []
+
+
+def formula_to_do(asked, family, key):
+    """The rule of a formula, or where its page is."""
+    where = asked.advice.to_do(family, key)[1]
+    return to_do(asked, family, key) if key == 'Form' else [f'see {where}']
+
+
+def about_watch(asked):
+    """What stands at the first moment at which a formula fails, and which part of it does."""
+    time = int(asked.answer.split()[-1])
+    moments = formulas.moments_of(asked.tables(), missiontext.Trace(asked.whole))
+    formula = formulas.formula_of(asked.words[0])
+    why = formulas.Why(asked.words[0], asked.tables(), moments)
+    names = dict.fromkeys(said.ref for said in formulas.comparisons(formula))
+    values = ', '.join(f'{name} {why.value(name, time)}' for name in names)
+    return why.lines(formula, time)[:6] + ([f'at moment {time}: {values}'] if len(names) > 1 else [])
+
+
+def section_to_do(asked, family, key):
+    alone = key == 'Missing' and not asked.sections.heads and asked.source.strip() != ''
+    return [f'see {asked.advice.to_do(family, key)[1]}'] if alone and asked.command in ('check', 'recover') else to_do(asked, family, key)
+
+
+def recover_to_do(asked, family, key):
+    return [f'see {asked.advice.to_do(family, key)[1]}']
 
 
 def nothing(*_):
@@ -499,15 +549,15 @@ FAMILIES = (
     (re.compile(r'refused (\d+)'), 'refused', about_condition, to_do),
     (re.compile(r'refused start()'), 'start', about_start, to_do),
     (re.compile(r'refused certify()'), 'certify', about_certify, nothing),
-    (re.compile(r'refused regions (?:module \S+ )?(jitter|safe none|safe TooMany|safer none)'), 'regions', nothing, to_do),
-    (re.compile(r'refused (recover)'), 'recover', about_recover, to_do),
-    (re.compile(r'refused (watch) time'), 'watch', nothing, to_do),
-    (re.compile(r'fault formula (\w+)'), 'formula', nothing, to_do),
+    (re.compile(r'refused regions (?:module \S+ )?(jitter|safe none|safe TooMany|safer none)'), 'regions', about_regions, to_do),
+    (re.compile(r'refused (recover)'), 'recover', about_recover, recover_to_do),
+    (re.compile(r'refused (watch) time'), 'watch', about_watch, to_do),
+    (re.compile(r'fault formula (\w+)'), 'formula', about_formula, formula_to_do),
     (re.compile(r'refused replay line \d+ (\w+)'), 'replay', about_replay, to_do),
     (re.compile(r'fault observed line \d+ (\w+)'), 'observed', nothing, to_do),
-    (re.compile(r'fault section line \d+ (\w+)'), 'section', about_section, to_do),
+    (re.compile(r'fault section line \d+ (\w+)'), 'section', about_section_or_program, section_to_do),
     (re.compile(r'fault syntax line \d+ column \d+ (\w+)'), 'syntax', about_place, token_to_do),
-    (re.compile(r'fault type line \d+ column \d+ (\w+)'), 'type', about_place, to_do),
+    (re.compile(r'fault type line \d+ column \d+ (\w+)'), 'type', about_typing, typing_to_do),
     (re.compile(r'fault certificate \S+ (\w+)'), 'certificate', about_json, value_to_do),
     (re.compile(r'fault flight \S+ (\w+)'), 'flight', about_json, value_to_do),
 )
@@ -549,9 +599,9 @@ def main(words):
             answer = source.read(LIMIT).decode('latin-1')
     said = line_of(answer)
     if command == 'guard':
-        lines = guard_hint(status, said)
+        lines = guard_hint(status, said, text)
     else:
-        lines = bridge_hint(text, more, said) if command == 'bridge' else hint_of(Asked(command, text, said, program))
+        lines = bridge_hint(text, more, said) if command == 'bridge' else hint_of(Asked(command, text, said, program, more, answer))
     for line in lines:
         print('soter: ' + line, file=sys.stderr)
 

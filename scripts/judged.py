@@ -45,7 +45,20 @@ class Judged:
             raise Unjudged(status, self.canonical)
         self.program = missiontext.Program(self.canonical)
         self.cells = missiontext.json_of(sections.parts['certificate'])['modules']
+        self.check_talk()
         self.trace = self.talk or missiontext.Trace(self.flown(said, sections.parts.get('trace', '')))
+
+    def check_talk(self):
+        """A talk says of each plant where it was first, and names no other plant."""
+        if self.talk is None:
+            return
+        moved = {name for event in self.talk.events if event.kind == 'tick' for name in event.numbers}
+        lacks = [name for name in self.program.plants if name not in self.talk.starts]
+        odd = [name for name in (*self.talk.starts, *moved) if name not in self.program.plants]
+        if lacks:
+            raise missiontext.NotRead(f'behind %observed no line `start {lacks[0]}(..)` tells where {lacks[0]} was first')
+        if odd:
+            raise missiontext.NotRead(f'behind %observed stands a plant {odd[0]}, which the program has not')
 
     def flown(self, said, lines):
         if self.command == 'fly' and self.status == 0:

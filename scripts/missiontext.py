@@ -28,6 +28,14 @@ Event = collections.namedtuple('Event', 'line time kind name writes numbers')
 Outside = collections.namedtuple('Outside', 'time plant state lo hi value')
 
 
+# what a robot may say, and what soter_guard does
+NUMBERS_SAID = r'-?\d+(?:,-?\d+)*'
+WRITES_SAID = r'(?: \w+(?:\.\w+)?[=!]-?\d+)*'
+TALKED = re.compile(rf'start \w+\({NUMBERS_SAID}\)|input \w+={NUMBERS_SAID}|draft \w+{WRITES_SAID}|go|tick(?: \w+\({NUMBERS_SAID}\))*|accepted|modules \d+ nodes \d+ cells \d+'
+                    rf'|\d+ input \w+={NUMBERS_SAID}|\d+ decide \w+ (?:ac|sc)|\d+ (?:fire|idle) \w+{WRITES_SAID}|\d+ hold \w+(?: \w+(?:\.\w+)?=-?\d+)*|\d+ ready'
+                    r'|\d+ outside plant \w+ state \w+ \[-?\d+\.\.-?\d+\] observed -?\d+|end \d+ events \d+|fault observed line \d+ \w+|refused start module \w+ point \(.*\)', re.A)
+
+
 class NotRead(Exception):
     """The text is none that this module reads."""
 
@@ -488,6 +496,8 @@ class Talk(Trace):
         self.starts, self.events, self.horizon, self.outside = {}, [], None, None
         time = 0
         for number, line in enumerate(text.split('\n'), 1):
+            if not TALKED.fullmatch(line.rstrip('\r')) and line.strip():
+                raise NotRead(not_talked(line, number))
             words = line.rstrip('\r').split(' ')
             if words[0] == 'start':
                 self.starts.update(places_of(words[1:]))
@@ -501,6 +511,13 @@ class Talk(Trace):
             elif words[0].isdigit() and words[1] == 'outside':
                 lo, hi = words[6][1:-1].split('..')
                 self.outside = Outside(int(words[0]), words[3], words[5], int(lo), int(hi), int(words[8]))
+
+
+def not_talked(line, number):
+    """Why a line is none of a talk."""
+    who = re.match(r'(you|it|robot|guard|[<>]+):?[ \t]+', line)
+    more = f': take `{who[1]}` off the front of the lines' if who and TALKED.fullmatch(line[who.end():].rstrip('\r')) else ''
+    return f'line {number} behind %observed is no line of a talk, neither of the robot nor of soter_guard{more}'
 
 
 def places_of(words):

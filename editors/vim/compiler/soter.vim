@@ -7,4 +7,4 @@ let current_compiler = 'soter'
 
 let s:lint = get(g:, 'soter_lint', fnamemodify(resolve(expand('<sfile>:p')), ':h:h:h:h') . '/scripts/lint')
 execute 'CompilerSet makeprg=' . escape(s:lint, ' \|"') . '\ %:p:S'
-CompilerSet errorformat=%f:%l:%c:\ %trror:\ %m,%f:%l:%c:\ %tote:\ %m
+CompilerSet errorformat=%f:%l:%c:\ %trror:\ %m,%f:%l:%c:\ %tote:\ %m,%f:%l:%c:\ %tarning:\ %m
