@@ -16,7 +16,7 @@ AND_BESIDES = {
     ('formula', 'Unknown'): 'name a topic of one number, a field `topic.field`, a state variable `plant.variable` or `mode(module)` of the program',
     ('formula', 'ScaleDiffers'): 'write the literal with as many decimals as what it is compared with has',
     ('bridge', 'Section'): 'put a line `%bridge`, alone, between the two missions',
-    ('bridge', 'Unknown'): 'name a topic that nodes of the first mission may write, and then an `environment topic` of the second',
+    ('bridge', 'Unknown'): 'name a topic of the first mission that is no environment topic, and then an `environment topic` of the second',
     ('bridge', 'Type'): 'declare both with as many numbers, of the same kinds and decimals, and in the second with ranges that hold those of the first',
     ('bridge', 'Horizon'): 'let the second flight go on to the end of the first and the delay, or longer',
     ('bridge', 'TooManyEvents'): 'shorten the first flight, let nodes that write the topic fire less often, or take inputs out of the second flight',
@@ -74,7 +74,7 @@ class Advice:
             'start': (self.formats, 'The trace', 'kind', 'comes where'),
             'watch': (self.formats, 'A flight that is watched', 'kind', 'what to do'),
             'bridge': (self.formats, 'Two missions and a bridge', 'written', 'comes exactly where'),
-            'observed': (self.formats, 'A talk with a robot', 'kind', 'comes where'),
+            'observed': (self.formats, 'Why a line is not taken', 'kind', 'comes where'),
             'regions': (self.language, 'Choosing regions', 'line', 'what to do'),
             'formula': (self.language, 'Formulas', 'kind', 'what to do'),
         }

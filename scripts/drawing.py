@@ -27,6 +27,9 @@ text{font:11px sans-serif;fill:#222}
 .fire{stroke:#222;stroke-width:1.5}
 .idle{stroke:#bbb;stroke-width:1.5}
 .refused{stroke:#c00;stroke-width:1.5}
+.ignored{stroke:#b36b00;stroke-width:1.5}
+.blind{stroke:#c00;stroke-width:2.5}
+.lost{stroke:#c00;stroke-dasharray:4 3}
 .badbox{fill:#d00;fill-opacity:.12;stroke:#d00;stroke-dasharray:2 2}
 .badcell{fill:none;stroke:#d00;stroke-width:2}
 .badpoint{fill:#d00}
@@ -52,6 +55,9 @@ text{fill:#ddd}
 .fire{stroke:#eee}
 .idle{stroke:#666}
 .refused{stroke:#ff6b6b}
+.ignored{stroke:#f0b050}
+.blind{stroke:#ff6b6b}
+.lost{stroke:#ff6b6b}
 .badbox{fill:#ff6b6b;stroke:#ff6b6b}
 .badcell{stroke:#ff6b6b}
 .badpoint{fill:#ff6b6b}

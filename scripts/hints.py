@@ -3,10 +3,11 @@
 
 `./soter` calls it at status 1 and 3. INPUT is the file with what the command read. The answer is taken from a file, or
 asked again of a built program with the same words, which is then also asked what `fly` would have written where a trace
-differs; of `soter_bridge` behind the word `bridge`; of `soter_guard` behind `guard`, by the last line of its answer
-alone. It says the row of the docs' tables for the refusal or fault, with what the answer leaves out: decimals, lines,
-cells, carets. It is tested and not proved, and writes nothing to standard output.
+differs; of `soter_bridge` behind the word `bridge`; of `soter_guard` behind `guard`, by its lines `outside`, `ignored` and
+`blind` and the last one. It says the row of the docs' tables for the refusal or fault, with what the answer leaves out:
+decimals, lines, cells, carets. It is tested and not proved, and writes nothing to standard output.
 """
+import collections
 import os
 import re
 import subprocess
@@ -26,6 +27,7 @@ from missiontext import NotRead, box_words, decimal, point_words, whole_numbers
 from wording import WIDTH, caret, offset_of_line, region_words, shown, ticks, tuple_words
 
 SECONDS, LIMIT = 20, 16777216
+ROBOT = 'docs/ROBOT.md'
 NEEDED = {'check': ('certificate',), 'recover': ('certificate',), 'fly': ('certificate', 'flight'), 'watch': ('certificate', 'flight'), 'replay': ('certificate', 'flight', 'trace')}
 KEYWORDS = set('topic environment int fix bool true false plant state input sees noise next node external period offset reads writes local do publish if then else '
                'repeat module ac sc safe safer none and or not min max abs clamp rescale'.split())
@@ -151,6 +153,13 @@ def about_condition(asked):
     said = missiontext.refusal_of(asked.answer)
     run = [LOOKS] if said['no'] in ('5', '6', '8', '9') else []
     return (ABOUT[said['no']](asked, said) if said['no'] in ABOUT else []) + run
+
+
+def condition_to_do(asked, family, key):
+    """The row of the page; of a program alone with `safer none`, who finds that region."""
+    if asked.command == 'certify' and key == '3' and asked.answer.endswith(' safer'):
+        return [f'`safer none` asks `./soter regions < FILE` to find the region; `certify` needs one ({doctables.LANGUAGE}, Choosing regions)']
+    return to_do(asked, family, key)
 
 
 LOOKS = '`./soter why < FILE` looks for a run that shows how it is lost'
@@ -429,27 +438,95 @@ def bridge_hint(text, words, answer):
 
 # --- talks with a robot -------------------------------------------------------------------------------------------
 
-def guard_hint(status, answer, text):
-    """The lines to say about the last line of `soter_guard`. `text` is what it heard, as far as that was kept."""
-    if status == '1' and answer.startswith('end '):
-        return ['a plant was observed where its model does not allow it to be: the line `outside` tells the tick, the interval and the number (docs/ROBOT.md, When `outside` comes)']
+def guard_hint(answer, text):
+    """The lines to say about what `soter_guard` said: its last line, and those that were no part of a run.
+
+    `text` is what it heard, as far as that was kept.
+    """
     mission, _, heard = text.partition('\n%observed')
-    asked = Asked('check', mission + '\n', answer, None)
-    said = re.match(r'fault observed line (\d+) (\w+)', answer)
-    if said:
-        return heard_lines(asked, heard.split('\n')[1:], int(said[1]), said[2]) + to_do(asked, 'observed', said[2])
-    return hint_of(asked)
+    told, said = heard.removesuffix('\n').split('\n')[1:], answer.rstrip('\n').split('\n')
+    asked = Asked('check', mission + '\n', said[-1], None)
+    fault = re.match(r'fault observed line (\d+) (\w+)', said[-1])
+    if fault:
+        found = heard_lines(asked, told, int(fault[1]), fault[2])
+        return found + to_do(asked, 'observed', fault[2])
+    return talk_lines(asked, told, said) if said[-1].startswith('end ') else hint_of(asked)
+
+
+def talk_lines(asked, told, said):
+    """Of a talk that has ended: who was outside, and which lines were not taken; of one sort the first."""
+    try:
+        talk = missiontext.Talk('\n'.join(told + said) + '\n')
+    except (NotRead, LookupError, ValueError):
+        talk = missiontext.Talk('\n'.join(said) + '\n')
+    lines = outside_lines(asked, talk.outside) if talk.outside else []
+    counts, firsts = collections.Counter(one[1:] for one in talk.untaken), {}
+    for one in talk.untaken:
+        firsts.setdefault(one[1:], one)
+    for sort, one in firsts.items():
+        lines += untaken_lines(asked, talk, one, counts[sort]) + to_do(asked, 'observed', one.why)
+    return lines
+
+
+def outside_lines(asked, said):
+    """An observed state that its model does not allow, in the decimals of the program."""
+    try:
+        plant = asked.tables().plants[said.plant]
+        scale = plant.scales[plant.states.index(said.state)]
+    except (NotRead, LookupError, ValueError):
+        scale = 0
+    lo, hi, value = (decimal(number, scale) for number in (said.lo, said.hi, said.value))
+    return [f'time {said.time}: {said.plant} was observed at {said.state} {value}, where its model allows '
+            f'{lo}..{hi}; {LATCHED}', f'see {ROBOT}, When `outside` comes']
+
+
+LATCHED = 'from then on every module is in mode `sc`'
+
+
+def untaken_lines(asked, talk, one, count):
+    """A line that was not taken, what follows from that, and the line itself where it is known which one."""
+    more = f' ({count} lines of this sort; this is the first)' if count > 1 else ''
+    if one.kind == 'ignored':
+        what = f'a line `{one.about}` was ignored ({one.why}), and changed nothing'
+    else:
+        what = f'a line was not taken ({one.why}), so the plants are not seen; {LATCHED}'
+    lines = [f'time {one.time}: {what}{more}']
+    said = line_not_taken(asked, talk, one)
+    if said is None:
+        return lines
+    spelled = spelling(asked, said) if one.why == 'NotALine' else []
+    return lines + (spelled or [f'{said.number} | {shown(said.line)[:WIDTH]}'])
+
+
+def line_not_taken(asked, talk, one):
+    """The robot's line that such an answer is about; None where several may be it."""
+    if one.kind == 'blind':
+        # the lines and their answers come in the same order
+        place = [other for other in talk.untaken if other.kind == 'blind'].index(one)
+        return talk.blinds[place] if place < len(talk.blinds) else None
+    came = [said for said in talk.asides if said.time == one.time and said.line.startswith(one.about)]
+    if one.why == 'NotALine':
+        came = [said for said in came if spelling(asked, said)][:1]
+    elif one.why == 'AlreadyDrafted':
+        names = [said.line.split(' ')[1:2] for said in came]
+        came = [said for place, said in enumerate(came) if names[place] in names[:place]][:1]
+    return came[0] if len(came) == 1 else None
+
+
+def spelling(asked, said):
+    """What is wrong with the spelling of a line, or nothing."""
+    try:
+        return talk_hints.lines_about(said.line, said.number, asked.tables())
+    except (NotRead, LookupError, ValueError):
+        return []
 
 
 def heard_lines(asked, lines, number, kind):
     """The robot's line that is at fault, and of one that says nothing the column."""
-    if number > len(lines) or (number == len(lines) and lines[-1] == ''):
+    if number > len(lines):
         return []
     line = lines[number - 1].rstrip('\r')
-    try:
-        found = talk_hints.lines_about(line, number, asked.tables()) if kind == 'NotALine' else []
-    except (NotRead, LookupError, ValueError):
-        found = []
+    found = spelling(asked, missiontext.Said(0, number, line)) if kind == 'NotALine' else []
     return found or [f'{number} | {shown(line)[:WIDTH]}']
 
 
@@ -546,7 +623,7 @@ def nothing(*_):
 
 # what begins an answer: its family, what the answer leaves out, and what to do
 FAMILIES = (
-    (re.compile(r'refused (\d+)'), 'refused', about_condition, to_do),
+    (re.compile(r'refused (\d+)'), 'refused', about_condition, condition_to_do),
     (re.compile(r'refused start()'), 'start', about_start, to_do),
     (re.compile(r'refused certify()'), 'certify', about_certify, nothing),
     (re.compile(r'refused regions (?:module \S+ )?(jitter|safe none|safe TooMany|safer none)'), 'regions', about_regions, to_do),
@@ -599,7 +676,7 @@ def main(words):
             answer = source.read(LIMIT).decode('latin-1')
     said = line_of(answer)
     if command == 'guard':
-        lines = guard_hint(status, said, text)
+        lines = guard_hint(answer, text)
     else:
         lines = bridge_hint(text, more, said) if command == 'bridge' else hint_of(Asked(command, text, said, program, more, answer))
     for line in lines:

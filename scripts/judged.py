@@ -52,13 +52,18 @@ class Judged:
         """A talk says of each plant where it was first, and names no other plant."""
         if self.talk is None:
             return
-        moved = {name for event in self.talk.events if event.kind == 'tick' for name in event.numbers}
+        places = [place for event in self.talk.events if event.kind == 'tick' for place in event.numbers.items()]
+        places = [(name, point) for name, (_, point) in places] + list(self.talk.starts.items())
+        sizes = {name: len(plant.states) for name, plant in self.program.plants.items()}
         lacks = [name for name in self.program.plants if name not in self.talk.starts]
-        odd = [name for name in (*self.talk.starts, *moved) if name not in self.program.plants]
+        odd = [name for name, _ in places if name not in sizes]
         if lacks:
             raise missiontext.NotRead(f'behind %observed no line `start {lacks[0]}(..)` tells where {lacks[0]} was first')
         if odd:
             raise missiontext.NotRead(f'behind %observed stands a plant {odd[0]}, which the program has not')
+        wide = [name for name, point in places if len(point) != sizes[name]]
+        if wide:
+            raise missiontext.NotRead(f'behind %observed {wide[0]} has another count of numbers than the {sizes[wide[0]]} that the program gives it')
 
     def flown(self, said, lines):
         if self.command == 'fly' and self.status == 0:

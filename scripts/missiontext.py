@@ -26,14 +26,23 @@ Module = collections.namedtuple('Module', 'name line ac sc period offset plant s
 Halves = collections.namedtuple('Halves', 'first second line')
 Event = collections.namedtuple('Event', 'line time kind name writes numbers')
 Outside = collections.namedtuple('Outside', 'time plant state lo hi value')
+# a line that was not taken: `ignored` or `blind`, what an ignored one began with, and why
+Untaken = collections.namedtuple('Untaken', 'time kind about why')
+# a line of a robot in its talk: the time when it came, and its number behind %observed
+Said = collections.namedtuple('Said', 'time number line')
 
 
 # what a robot may say, and what soter_guard does
 NUMBERS_SAID = r'-?\d+(?:,-?\d+)*'
 WRITES_SAID = r'(?: \w+(?:\.\w+)?[=!]-?\d+)*'
-TALKED = re.compile(rf'start \w+\({NUMBERS_SAID}\)|input \w+={NUMBERS_SAID}|draft \w+{WRITES_SAID}|go|tick(?: \w+\({NUMBERS_SAID}\))*|accepted|modules \d+ nodes \d+ cells \d+'
-                    rf'|\d+ input \w+={NUMBERS_SAID}|\d+ decide \w+ (?:ac|sc)|\d+ (?:fire|idle) \w+{WRITES_SAID}|\d+ hold \w+(?: \w+(?:\.\w+)?=-?\d+)*|\d+ ready'
-                    r'|\d+ outside plant \w+ state \w+ \[-?\d+\.\.-?\d+\] observed -?\d+|end \d+ events \d+|fault observed line \d+ \w+|refused start module \w+ point \(.*\)', re.A)
+TOLD = re.compile(rf'start \w+\({NUMBERS_SAID}\)|input \w+={NUMBERS_SAID}|draft \w+{WRITES_SAID}|go'
+                  rf'|tick(?: \w+\({NUMBERS_SAID}\))*', re.A)
+ANSWERED = re.compile(
+    rf'accepted|modules \d+ nodes \d+ cells \d+|\d+ input \w+={NUMBERS_SAID}|\d+ decide \w+ (?:ac|sc)'
+    rf'|\d+ (?:fire|idle) \w+{WRITES_SAID}|\d+ hold \w+(?: \w+(?:\.\w+)?=-?\d+)*|\d+ ready'
+    r'|\d+ outside plant \w+ state \w+ \[-?\d+\.\.-?\d+\] observed -?\d+|\d+ ignored (?:draft|input) \w+|\d+ blind \w+'
+    r'|end \d+ events \d+|fault observed line \d+ \w+|refused start module \w+ point \(.*\)', re.A)
+ASIDES = ('draft', 'input')
 
 
 class NotRead(Exception):
@@ -482,41 +491,106 @@ class Trace:
         """The last time of which the trace tells something."""
         time = self.horizon or 0
         for event in self.events:
-            time = max(time, event.time + (event.kind == 'tick'))
+            time = max(time, event.time + (event.kind in ('tick', 'unseen')))
         return time
 
 
 class Talk(Trace):
-    """Both sides of a talk with a robot, as `scripts/robot` keeps it: where plants were observed, the events, and who was observed outside.
+    """Both sides of a talk with a robot: where plants were observed, the events, who was observed outside, and which
+    lines were not taken.
 
-    It has to be one that `soter_guard` answered. Of a tick the disturbances are not known.
+    It has to be one that `soter_guard` answered. Each side's lines stand in their order; how they lie between those of
+    the other side does not count. Of a tick the disturbances are not known. A tick in whose place a line was not taken
+    is an event `unseen`.
     """
 
     def __init__(self, text):
-        self.starts, self.events, self.horizon, self.outside = {}, [], None, None
-        time = 0
-        for number, line in enumerate(text.split('\n'), 1):
-            if not TALKED.fullmatch(line.rstrip('\r')) and line.strip():
-                raise NotRead(not_talked(line, number))
-            words = line.rstrip('\r').split(' ')
-            if words[0] == 'start':
-                self.starts.update(places_of(words[1:]))
-            elif words[0] == 'tick':
-                self.events.append(Event(number, time, 'tick', '', [], {plant: (None, states) for plant, states in places_of(words[1:]).items()}))
-                time += 1
-            elif words[0] == 'end':
-                self.horizon = int(words[1])
-            elif words[0].isdigit() and words[1] in ('input', 'decide', 'fire', 'idle'):
-                self.events.append(event_of(number, words))
-            elif words[0].isdigit() and words[1] == 'outside':
-                lo, hi = words[6][1:-1].split('..')
-                self.outside = Outside(int(words[0]), words[3], words[5], int(lo), int(hi), int(words[8]))
+        self.starts, self.events, self.horizon, self.outside, self.trust_ends = {}, [], None, None, None
+        self.untaken, self.asides, self.blinds, self.fault = [], [], [], None
+        told, lines = [], text.split('\n')
+        for number, line in enumerate(lines[:-1] if lines[-1] == '' else lines, 1):
+            line = line.rstrip('\r')
+            if ANSWERED.fullmatch(line):
+                self.take_answer(number, line.split(' ') + [''])
+            else:
+                told.append((number, line))
+        self.hear(told if self.fault is None else told[:self.fault - 1])
+        self.events.sort(key=lambda event: (event.time, event.kind in ('tick', 'unseen')))
+
+    def take_answer(self, number, words):
+        """A line of the program."""
+        if words[0] == 'end':
+            self.horizon = int(words[1])
+        elif words[:2] == ['fault', 'observed']:
+            self.fault = int(words[3])
+        elif words[1] in ('input', 'decide', 'fire', 'idle'):
+            self.events.append(event_of(number, words[:-1]))
+        elif words[1] == 'outside':
+            lo, hi = words[6][1:-1].split('..')
+            self.outside = Outside(int(words[0]), words[3], words[5], int(lo), int(hi), int(words[8]))
+            self.end_trust(self.outside.time, ' '.join(words[:-1]))
+        elif words[1] in ('ignored', 'blind'):
+            about = words[2] if words[1] == 'ignored' else ''
+            self.untaken.append(Untaken(int(words[0]), words[1], about, words[-2]))
+            if words[1] == 'blind':
+                self.end_trust(int(words[0]), ' '.join(words[:-1]))
+
+    def end_trust(self, time, line):
+        """From then on the models are not trusted; the first such line counts."""
+        self.trust_ends = self.trust_ends or (time, line)
+
+    def count(self, kind):
+        """How many lines were answered so, by the time."""
+        return collections.Counter(one.time for one in self.untaken if one.kind == kind)
+
+    def hear(self, told):
+        """Goes over the robot's lines, which tell by turns what comes in an instant and where plants are after it."""
+        blind, ignored, time, turn = self.count('blind'), self.count('ignored'), 0, 'start'
+        for place, (number, line) in enumerate(told):
+            plant = line[len('start '):].partition('(')[0]
+            if turn == 'start' and line.startswith('start ') and TOLD.fullmatch(line) and plant not in self.starts:
+                self.starts.update(places_of(line.split(' ')[1:]))
+                continue
+            turn = 'instant' if turn == 'start' else turn
+            if line.startswith(ASIDES):
+                if not TOLD.fullmatch(line) and not ignored[time]:
+                    raise NotRead(not_talked(line, number))
+                self.asides.append(Said(time, number, line))
+            elif turn == 'instant' and line == 'go':
+                turn = 'tick'
+            elif turn == 'tick' and is_tick(line) and (not blind[time + 1] or blind[time + 1] <= stray(told[place + 1:])):
+                states = {plant: (None, point) for plant, point in places_of(line.split(' ')[1:]).items()}
+                self.events.append(Event(number, time, 'tick', '', [], states))
+                time, turn = time + 1, 'instant'
+            else:
+                if turn == 'tick':
+                    self.events.append(Event(number, time, 'unseen', '', [], None))
+                    time, turn = time + 1, 'tick' if line == 'go' else 'instant'
+                if not blind[time]:
+                    raise NotRead(not_talked(line, number))
+                blind[time] -= 1
+                self.blinds.append(Said(time, number, line))
+
+
+def is_tick(line):
+    return line.startswith('tick') and TOLD.fullmatch(line)
+
+
+def stray(told):
+    """How many lines up to the next `go` may not stand in an instant."""
+    lines = [line for _, line in told]
+    instant = lines[:lines.index('go')] if 'go' in lines else lines
+    return sum(not line.startswith(ASIDES) for line in instant)
 
 
 def not_talked(line, number):
     """Why a line is none of a talk."""
     who = re.match(r'(you|it|robot|guard|[<>]+):?[ \t]+', line)
-    more = f': take `{who[1]}` off the front of the lines' if who and TALKED.fullmatch(line[who.end():].rstrip('\r')) else ''
+    rest = who and line[who.end():]
+    known = rest is not None and (TOLD.fullmatch(rest) or ANSWERED.fullmatch(rest))
+    if not known and TOLD.fullmatch(line):
+        return f'line {number} behind %observed stands out of turn, and no line `blind` answers it'
+    more = f': take `{who[1]}` off the front of the lines' if known else ''
     return f'line {number} behind %observed is no line of a talk, neither of the robot nor of soter_guard{more}'
 
 

@@ -94,7 +94,7 @@ def codes_that_may_trap_are_named():
     status, out, err = run([SOTER, 'certify'], program.replace('safer none', 'safer [0.000..20.000, 0.00..1.50]'), SOTER_HINTS='1')
     want(status == 1 and out.startswith('refused 14'), f'status {status}, {out[:90]!r}')
     want('`acc` holds -2.0..1.0, and `-2.5` is -2.5' in err, err)
-    status, out, err = run([SOTER, 'check'], read(os.path.join(MISSIONS, 'divide.mission')), SOTER_HINTS='1')
+    status, out, err = run([SOTER, 'check'], read(os.path.join(MISSIONS, 'check', 'divide.mission')), SOTER_HINTS='1')
     want('the divisor `' in err and 'so also 0' in err, err)
 
 
@@ -113,7 +113,7 @@ def silent_safe_nodes_are_named():
 
 def recovery_tells_its_causes_apart():
     """A node that only stops, a disturbance that holds, and cells that are too large."""
-    line = read(os.path.join(MISSIONS, 'line_back.mission'))
+    line = read(os.path.join(MISSIONS, 'recover', 'line_back.mission'))
     wide = re.sub(r'"closed":\[.*?\],"reach"', '"closed":[[[-40,-3]],[[-2,2]],[[3,40]]],"reach"', line)
     strong = line.replace('noise w: int[-1..1]', 'noise w: int[-2..2]')
     for name, text, said in (('drone', read(os.path.join(MISSIONS, 'drone.mission')), 'No cells can help: let `land` steer'),
@@ -191,14 +191,14 @@ def lines_of_robots_are_named():
         direct = run([trying.PROGRAMS['soter_guard']], text)[:2]
         status, out, err = run([os.path.join(TOP, 'soter_guard')], text, SOTER_HINTS='1')
         want((status, out) == direct, f'{lines!r}: {status}, {out!r}, for {direct}')
-        want('fault observed' in out or 'refused start' in out, f'{lines!r}: {out!r}')
+        want(re.search('fault observed|refused start|^[0-9]+ (?:ignored|blind) ', out, re.M), f'{lines!r}: {out!r}')
         for part in said:
             want(part in err, f'{lines!r}, which answers {out[-60:]!r}: no {part!r} in {err!r}')
 
 
 def fields_of_drafts_have_an_order():
     """Of a record, and of an input by fields."""
-    oven = read(os.path.join(MISSIONS, 'oven.mission'))
+    oven = read(os.path.join(MISSIONS, 'fly', 'oven.mission'))
     import missiontext
     import talk_hints
     tables = missiontext.Program(oven[:oven.index('%certificate')])

@@ -6,23 +6,12 @@ import tempfile
 import trying
 from trying import HERE, MISSIONS, PEOPLE, SOTER, TOP, read, run, want
 
-NAMES = [name + end for name in ('lift', 'crossing', 'greenhouse') for end in ('', '_sensor')]
 SENSORS = {'lift': ['cabin.x=0.001', 'cabin.v=0.0033'], 'crossing': ['robot.gap=0.001', 'robot.v=0.0033'], 'greenhouse': ['house.t=0.033']}
 TICKS = 400
 
 
 def path_of(name):
     return os.path.join(PEOPLE, name + '.mission')
-
-
-def missions_of_people_are_made_again():
-    """By soter_regions, from the programs beside them; they are accepted, and their flights are flown."""
-    for name in NAMES:
-        status, made, _ = run([trying.PROGRAMS['soter_regions']], read(os.path.join(PEOPLE, name + '.asked.program')))
-        stored = read(path_of(name))
-        want(status == 0 and made in stored, f'{name}: status {status}, another mission')
-        want(run([SOTER, 'check'], stored, SOTER_HINTS='0')[1].startswith('accepted'), f'{name} is not accepted')
-        want(run([SOTER, 'fly'], stored, SOTER_HINTS='0')[0] == 0, f'{name} is not flown')
 
 
 def noisy(truth, mission, words):
@@ -81,7 +70,10 @@ LINTS = [
 
 def lints_name_the_line():
     """Each warning, at its line; and none of the program as it is."""
-    program = read(os.path.join(PEOPLE, 'crossing.asked.program')).replace('safer none', 'safer [19.000..20.000, 0.00..0.00]')
+    asked = os.path.join(PEOPLE, 'crossing.asked.program')
+    out = run([os.path.join(HERE, 'lint'), asked])[1]
+    want(': error: ' not in out and 'asks `./soter regions < FILE` to find the region' in out, f'`safer none`: {out}')
+    program = read(asked).replace('safer none', 'safer [19.000..20.000, 0.00..0.00]')
     with tempfile.TemporaryDirectory() as folder:
         path = os.path.join(folder, 'some.program')
         for old, new, said, place in [('', '', '', '')] + LINTS:
@@ -107,8 +99,8 @@ def waiting_is_told():
         with open(slow, 'w') as file:
             file.write('#!/bin/sh\ncat >/dev/null\nsleep 6\necho answer\n')
         os.chmod(slow, 0o755)
-        status, out, err = run([os.path.join(TOP, 'soter_regions')], '# a comment\n', SOTER_REGIONS_PROGRAM=slow, SOTER_HINTS='1', SOTER_PROGRESS='1')
+        status, out, err = run([os.path.join(TOP, 'soter_regions')], '# a comment\n', SOTER_REGIONS_PROGRAM=slow, SOTER_PROGRESS='1')
         want((status, out) == (0, 'answer\n') and 'at work for 5 s' in err and 'comments of the program are not kept' in err, f'{status} {out!r} {err!r}')
 
 
-TESTS = (missions_of_people_are_made_again, sensors_that_err_are_no_alarm, clamps_leave_no_room, shrunken_regions_change_less, lints_name_the_line, waiting_is_told)
+TESTS = (sensors_that_err_are_no_alarm, clamps_leave_no_room, shrunken_regions_change_less, lints_name_the_line, waiting_is_told)

@@ -70,7 +70,7 @@ def releases_are_installed_and_used():
         line, line1, drone = (read(os.path.join(MISSIONS, name)) for name in ('line.mission', 'line1.mission', 'drone.mission'))
         rows = [(['soter', 'check'], line, 'accepted'), (['soter', 'fly'], line1, 'soter trace'), (['soter', 'regions'], read(os.path.join(MISSIONS, 'line.program')), '%certificate'),
                 (['soter_regions'], read(os.path.join(MISSIONS, 'line.program')), '%certificate'), (['soter', 'picture'], drone, '<svg'), (['soter', 'table'], drone, 'tick,'),
-                (['soter_guard'], read(os.path.join(MISSIONS, 'observed', 'calm.talk')), 'accepted'), (['soter_bridge', 'ahead', 'obstacle', '2'], read(os.path.join(MISSIONS, 'camera.bridge')), 'soter trace')]
+                (['soter_guard'], read(os.path.join(MISSIONS, 'guard', 'calm.talk')), 'accepted'), (['soter_bridge', 'ahead', 'obstacle', '2'], read(os.path.join(MISSIONS, 'bridge', 'camera.bridge')), 'soter trace')]
         for words, text, said in rows:
             if words == ['soter_guard'] and PROGRAMS['soter_guard'].endswith('.py'):
                 # its second program stands in, which does not run alone

@@ -8,7 +8,7 @@ import trying
 from trying import HERE, MISSIONS, PEOPLE, SOTER, read, run, want
 
 REAL = [f'real/{name}.asked.program' for name in ('cruise', 'cruise_seen', 'docking', 'geofence', 'lane', 'pendulum', 'pendulum_modal', 'surveillance', 'thermostat', 'town')]
-REFUSED = [f'{name}.mission' for name in ('line_too_wide', 'double_wide', 'drone_low', 'drone_early', 'pair_low')]
+REFUSED = [f'check/{name}.mission' for name in ('line_too_wide', 'double_wide', 'drone_low', 'drone_early', 'pair_low')]
 # programs of people/, of which regions finds none once this stands in place of that
 CHANGED = [
     ('lift', 'v - 0.15', 'v - 0.01', 'v + 0.15', 'v + 0.00'),
@@ -26,7 +26,7 @@ def inputs():
         yield name, ['certify'], read(os.path.join(MISSIONS, name))
     for name in REFUSED:
         yield name, ['check'], read(os.path.join(MISSIONS, name))
-    for name in ('double_point.program', 'line_point.program'):
+    for name in ('certify/double_point.program', 'certify/line_point.program'):
         yield name, ['certify'], read(os.path.join(MISSIONS, name))
     for name, old, new, other, another in CHANGED:
         text = read(os.path.join(PEOPLE, name + '.asked.program'))
@@ -104,9 +104,9 @@ def causes_are_told_apart():
 def no_run_is_shown_where_there_is_none():
     """A gap that the safe node keeps, a cell that is too large; and answers of which no run can tell."""
     line = read(os.path.join(MISSIONS, 'line.mission'))
-    rows = [('line_gap', 'check', read(os.path.join(MISSIONS, 'line_gap.mission')), 1, 'the state is just in no cell'),
-            ('line_one_cell', 'check', read(os.path.join(MISSIONS, 'line_one_cell.mission')), 1, 'the boxes may be too coarse'),
-            ('line', 'check', line, 2, ''), ('points', 'certify', read(os.path.join(MISSIONS, 'points.program')), 2, '')]
+    rows = [('line_gap', 'check', read(os.path.join(MISSIONS, 'check', 'line_gap.mission')), 1, 'the state is just in no cell'),
+            ('line_one_cell', 'check', read(os.path.join(MISSIONS, 'check', 'line_one_cell.mission')), 1, 'the boxes may be too coarse'),
+            ('line', 'check', line, 2, ''), ('points', 'certify', read(os.path.join(MISSIONS, 'certify', 'points.program')), 2, '')]
     for name, command, text, wanted, words in rows:
         status, out, err = run([SOTER, 'why', command], text)
         want(status == wanted and words in out, f'{name}: status {status}, {out[-300:]!r} {err[-300:]!r}')

@@ -15,6 +15,7 @@ SHADOWS = ' (shadows)'
 LEGEND = {
     'safe': 'safe region', 'safer': 'safer region', 'closed': 'closed cell', 'reach': 'reach cell', 'path': 'state of the plant',
     'ac': 'advanced node enabled', 'sc': 'safe node enabled', 'fire': 'fired', 'idle': 'fired, not heard', 'refused': 'a number refused',
+    'ignored': 'a draft or an input ignored', 'blind': 'a line not taken: the robot is not seen', 'lost': 'the models are trusted no more',
     'noise': 'disturbance', 'bound': 'its bounds', 'badcell': 'failing cell', 'badbox': 'where it may come to', 'badpoint': 'failing point',
 }
 OBSERVED = {'path': 'observed state', 'badbox': 'where its model allows it to be', 'badpoint': 'observed outside'}
@@ -35,6 +36,7 @@ class View:
         self.talk, self.outside = judged.talk, judged.talk and judged.talk.outside
         if self.outside and self.outside.plant != self.plant.name:
             self.outside = None
+        self.lost = judged.talk and judged.talk.trust_ends
         self.fly_over(judged.trace)
 
     def fly_over(self, trace):
@@ -42,7 +44,11 @@ class View:
         if self.plant.name in trace.starts:
             self.path.append(trace.starts[self.plant.name])
         for event in trace.events:
-            if event.kind == 'tick':
+            self.lose_trust(event.time)
+            if event.kind == 'unseen':
+                # the plant counts as where it was observed last
+                self.path.append(self.path[-1])
+            elif event.kind == 'tick':
                 noise, states = event.numbers[self.plant.name]
                 self.path.append(states)
                 self.noise += [noise] if noise is not None else []
@@ -52,6 +58,12 @@ class View:
                 kinds = [event.kind] + ['refused'] * any(mark == '!' for _, mark, _ in event.writes)
                 for kind in kinds:
                     self.firings.setdefault((event.name, kind), []).append(event.time)
+        self.lose_trust(self.last)
+
+    def lose_trust(self, time):
+        """Once the models are trusted no more the safe node is in charge at once, and not first when its module decides."""
+        if self.lost and time >= self.lost[0] and self.modes[-1][1] != 'sc':
+            self.modes.append((self.lost[0], 'sc'))
 
     def bad(self):
         """What failed, as (class, box or point, words)."""
@@ -145,6 +157,7 @@ class Picture:
             for state in range(len(plant.states)):
                 self.draw_state(view, state)
             self.draw_modes(view)
+            self.draw_untaken(view)
             for node in (module.ac, module.sc):
                 self.draw_firings(view, node)
             for noise in range(len(plant.noise) if not view.talk else 0):
@@ -198,6 +211,9 @@ class Picture:
         self.sheet.put('polyline', f'{view.plant.name}.{name}', class_=self.show('path'), points=places, data_values=listed(values))
         self.draw_bad_start(view, state, time, axis)
         self.draw_outside(view, state, time, axis)
+        if view.lost:
+            at, words = view.lost
+            self.sheet.put('path', f'{words}: {LEGEND["lost"]}', class_=self.show('lost'), d=f'M{time.at(at):.2f} {self.y:.2f}v{height}', data_time=at)
         self.sheet.close('g')
         self.y += height
 
@@ -232,6 +248,22 @@ class Picture:
             if end > begin or (begin, mode) == view.modes[-1]:
                 length = max(time.at(end) - time.at(begin), 1.0)
                 self.sheet.put('rect', f'{LEGEND[mode]}, {begin} to {end}', class_=self.show(mode), x=time.at(begin), y=self.y, width=length, height=12.0, data_from=begin, data_to=end)
+        self.sheet.close('g')
+        self.y += 14
+
+    def draw_untaken(self, view):
+        """When the program answered `ignored` or `blind`; nothing where each line of the talk was taken."""
+        if not view.talk or not view.talk.untaken:
+            return
+        time = self.ticks(view)
+        self.sheet.open('g', class_='untaken', **time.data('x'))
+        self.sheet.text(LEFT - 6.0, self.y + 10, 'not taken', '', 'end')
+        for kind in ('ignored', 'blind'):
+            found = [one for one in view.talk.untaken if one.kind == kind]
+            if found:
+                words = ', '.join(dict.fromkeys(' '.join(filter(None, (kind, one.about, one.why))) for one in found))
+                place = ''.join(f'M{time.at(one.time):.2f} {self.y + 2:.2f}v8' for one in found)
+                self.sheet.put('path', words, class_=self.show(kind), d=place, data_times=listed(one.time for one in found))
         self.sheet.close('g')
         self.y += 14
 
@@ -380,8 +412,7 @@ class Picture:
         """What was said of the mission, and whether that is bad."""
         judged, talk = self.judged, self.judged.talk
         if talk and judged.status == 0:
-            o = talk.outside
-            return (f'soter_guard: {o.time} outside plant {o.plant} state {o.state} [{o.lo}..{o.hi}] observed {o.value}', True) if o else ('soter_guard: no plant outside its model', False)
+            return (f'soter_guard: {talk.trust_ends[1]}', True) if talk.trust_ends else ('soter_guard: no plant outside its model', False)
         return f'soter {judged.command}: {judged.answer if judged.command == "check" or judged.status else "accepted and flown"}', judged.status != 0
 
     def text(self, about):
@@ -404,7 +435,7 @@ class Picture:
         return head.whole(WIDTH, round(height + self.y + 14), f'soter: {about}', words)
 
     def swatch(self, head, kind, x, y):
-        if kind in ('path', 'noise', 'fire', 'idle', 'refused'):
+        if kind in ('path', 'noise', 'fire', 'idle', 'refused', 'ignored', 'blind', 'lost'):
             head.put('path', class_=kind, d=f'M{x:.2f} {y + 6:.2f}h15')
         elif kind == 'badpoint':
             head.put('circle', class_=kind, cx=x + 8, cy=y + 6, r=4)

@@ -3,10 +3,10 @@ import heapq
 import itertools
 
 from . import affine, forms
-from .expressions import slope_of
+from .expressions import names_in, slope_of
 from .faults import Fault, Split
 from .flow import polynomial_in
-from .intervals import INF, add, around, down, mag, neg, sum_up, up
+from .intervals import INF, add, around, down, hull, mag, neg, sum_up, up
 from .limits import Limit
 
 NEAR = 0.01  # part of the noise to which bounds are made exact
@@ -26,8 +26,9 @@ def bounded(system, flow):
     try:
         rows = forms.chosen(system, flow)
     except (ArithmeticError, ValueError) as why:
+        what = "a division by 0" if isinstance(why, ZeroDivisionError) else "numbers beyond floats"
         raise Fault(
-            "state", f"somewhere in the range the rates have no value for a tick: {why}"
+            "state", f"somewhere in the range the rates have no value for a tick: {what}"
         ) from None
     search = Search(system, flow, rows)
     search.run()
@@ -37,15 +38,34 @@ def bounded(system, flow):
 
 
 def check_kept(system, flow):
-    """Of a state that its rate keeps in its range: at each end the rate leads inwards or is 0, whatever the others
-    are, so that no solution leaves (Nagumo). The faces are cut until their boxes show it."""
+    """Of a state that its rate keeps in its range: at each end the rate leads inwards or is 0, wherever the others
+    are within a tick, so that no solution leaves (Nagumo). The faces are cut until their boxes show it."""
+    within = within_ticks(system, flow)
     for i, s in enumerate(system.states):
         for end, sign in ((s.lo, 1), (s.hi, -1)) if s.keeps else ():
-            face = flow.ranges()
+            face = list(within)
             face[i] = around(end)
             if not is_kept(system, flow, face, i, sign):
                 text = f"at {float(end):g} the rate may lead out of the range"
                 raise Fault(f"state.{s.name}.keeps", text)
+
+
+def within_ticks(system, flow):
+    """The ranges of a cell, but of states that may leave theirs between two samples: what a tick leads through."""
+    ranges, kept = flow.ranges(), [s for s in system.states if s.keeps]
+    named = set().union(*[names_in(s.rate) for s in kept])
+    loose = [not (s.safe or s.keeps or s.stops or system.boxes) for s in system.states]
+    if not any(out and s.name in named for out, s in zip(loose, system.states)):
+        return ranges
+    tube, stack = None, [ranges]
+    while stack:
+        cell = stack.pop()
+        try:
+            seen = flow.walk(cell).tube
+            tube = seen if tube is None else [hull(a, b) for a, b in zip(tube, seen)]
+        except Split as why:
+            stack += halves(flow, cell, None, str(why))
+    return [t if out else r for t, out, r in zip(tube, loose, ranges)] + ranges[flow.n :]
 
 
 def is_kept(system, flow, face, i, sign):

@@ -1,6 +1,6 @@
 """Decimals of states that name none: the fewest with which rounding is no main part of the noise.
 
-It is an estimate in floats at the middle of the ranges, and nothing is promised of it: each choice is sound.
+It is an estimate in floats at a few points of the ranges, and nothing is promised of it: each choice is sound.
 """
 from .expressions import number
 
@@ -20,17 +20,28 @@ def choose(reader):
 
 
 def unsure_of(reader, state):
-    """How far a tick may lead the state from where it is expected, its own rounding left out."""
-    tick = float(reader.lengths[1])
-    env = {s.name: float(s.lo + s.hi) / 2 for s in reader.states}
-    env |= {h.name: float(h.lo + h.hi) / 2 for h in reader.inputs}
+    """How far a tick may lead the state from where it is expected, its own rounding left out; the most of what is
+    seen at the middle of all ranges and at their ends."""
+    tick, most = float(reader.lengths[1]), 0.0
+    ranges = [(name, float(hi - lo) / 2) for name, lo, hi in reader.disturbances + reader.unsure]
+    for part in (0.5, 0.0, 1.0):
+        env = at_part(reader, part)
+        reads = []
+        for s in reader.states:
+            if s is not state:
+                led = rate_spread(s, env, ranges) * tick / 2  # within the tick, at its middle
+                reads.append((s.name, float(s.r) + led))
+        most = max(most, rate_spread(state, env, ranges + reads) * tick)
+    return 2 * float(state.error) + most
+
+
+def at_part(reader, part):
+    """A point of the ranges of states and inputs; disturbances and constants in their middles."""
+    between = lambda lo, hi, part: float(lo) + part * float(hi - lo)
+    env = {s.name: between(s.lo, s.hi, part) for s in reader.states}
+    env |= {h.name: between(h.lo, h.hi, part) for h in reader.inputs}
     ranges = reader.disturbances + reader.unsure
-    env |= {name: float(lo + hi) / 2 for name, lo, hi in ranges}
-    reads = [(s.name, float(s.r)) for s in reader.states if s is not state]
-    total = 2 * float(state.error)
-    total += rate_spread(state, env, [(n, float(hi - lo) / 2) for n, lo, hi in ranges]) * tick
-    total += rate_spread(state, env, reads) * tick
-    return total
+    return env | {name: between(lo, hi, 0.5) for name, lo, hi in ranges}
 
 
 def rate_spread(state, env, ways):

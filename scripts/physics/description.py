@@ -27,6 +27,8 @@ TOP_KEYS = "name tick state input disturbance constant safe form terms pieces co
 STATE_KEYS = "rate decimals range safe unit error round hold keeps stops jump plant".split()
 ROUNDS = {"nearest": 0, "up": 1, "down": -1}
 INPUT_KEYS = "unit decimals range start delay".split()
+FLIGHT_KEYS = "horizon seed start crew".split()
+MOST_TICKS = 100_000  # of a flight
 
 
 @dataclass
@@ -166,6 +168,7 @@ class Reader:
         self.read_states()
         self.apply_stops()
         self.read_boxes()
+        self.check_flight()
 
     def tick_of(self, value):
         """The least and the greatest length of a tick."""
@@ -342,6 +345,21 @@ class Reader:
         if any(s.safe for s in self.states if s.plant in self.boxed):
             raise Fault("safe", "stands beside no safe of a single state of its plant")
 
+    def check_flight(self):
+        """The table `flight`, as far as it can be told here: `soter fly` reads the rest."""
+        table = self.doc.get("flight", {})
+        check_keys(table, FLIGHT_KEYS, "flight")
+        count(table.get("horizon", 60), "flight.horizon", 0, MOST_TICKS)
+        count(table.get("seed", 42), "flight.seed", 0, 2**31 - 1)
+        plants = list(dict.fromkeys(s.plant for s in self.states))
+        start, crew = table.get("start", {}), table.get("crew", {})
+        lists = [*check_keys(start, plants, "flight.start").items()]
+        lists += check_keys(crew, crew, "flight.crew").items()
+        for name, value in lists:
+            if not isinstance(value, list):
+                key = "start" if name in start else "crew"
+                raise Fault(f"flight.{key}.{name}", "a list is wanted")
+
     # --- one system a plant ----------------------------------------------------------------------
 
     def systems(self):
@@ -369,6 +387,8 @@ class Reader:
         )
         own, far = rates([s for s in states if not s.seen]), rates([s for s in states if s.seen])
         named, disturbances, inputs = own | far, [], []
+        kicks = set().union(*[names_in(s.jump) for s in states])
+        unsure = [u for u in self.unsure if u[0] in named]
         if len(set(s.plant for s in self.states)) == 1:
             own = own | {h.name for h in self.inputs}
         for h in self.inputs:
@@ -376,10 +396,11 @@ class Reader:
                 raise Fault(f"input.{h.topic}", "moves a plant and one that it sees")
             if h.name in own:
                 inputs.append(h)
+            elif h.name in kicks:  # held over the tick, like a constant
+                unsure.append((h.name, h.lo, h.hi))
             elif h.name in far:
                 disturbances.append((h.name, h.lo, h.hi))
         disturbances += [d for d in self.disturbances if d[0] in named]
-        unsure = [u for u in self.unsure if u[0] in named]
         system = System(
             plant,
             self.lengths[0],
@@ -398,9 +419,8 @@ class Reader:
             system.boxes = [[box[s.name] for s in states] for box in self.boxes]
         if "coordinates" in self.doc:
             coordinates.change(system, self.doc["coordinates"], self.seen)
-        if plant == self.name:
-            for s in self.states:
-                fresh(f"w_{s.name}", f"state.{s.name}", self.seen)
+        for s in system.own:
+            fresh(f"w_{s.name}", f"state.{s.name}", self.seen)
         slots = len(system.own) + sum(h.delay for h in inputs)
         if slots > MOST_STATES:
             raise Fault(
@@ -420,6 +440,10 @@ class Reader:
 
     def check_sections(self, systems):
         """Of sections by variables: each names one that some plant has."""
+        moved = {h.topic for system in systems for h in system.inputs}
+        for h in self.inputs:
+            if h.topic not in moved:
+                raise Fault(f"input.{h.topic}", "stands in the rate and jump of no plant")
         own = {s.name for system in systems for s in system.own}
         also = {word for system in systems for h in system.inputs for word in (h.name, h.topic)}
         for key, known in (("form", own), ("terms", own), ("pieces", own | also)):

@@ -134,9 +134,11 @@ class Flow:
         box = wider(image(start))
         for _ in range(TRIES):
             got = image(box)
-            if all(b[0] <= g[0] and g[1] <= b[1] for b, g in zip(box, got)):
+            left = [g[0] < b[0] or b[1] < g[1] for b, g in zip(box, got)]
+            if not any(left):
                 return image(got)
-            box = wider([hull(b, g) for b, g in zip(box, got)])
+            more = wider([hull(b, g) for b, g in zip(box, got)])
+            box = [m if out else b for b, m, out in zip(box, more, left)]
         raise Split("no box was found that the flow stays in for a tick")
 
     def steps(self):

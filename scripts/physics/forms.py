@@ -31,8 +31,9 @@ def settled(system, i, forms):
     for m in {m for form in forms for m in form}:
         if sum(places[v] for v in m) > WORK:
             what = "*".join(m)
+            key = "form" if s.name in system.forms else "terms"
             raise Fault(
-                f"form.{s.name}",
+                f"{key}.{s.name}",
                 f"the product {what} has more than {WORK} decimals: take fewer, or another form",
             )
     for style in range(STYLES):

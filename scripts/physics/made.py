@@ -4,10 +4,12 @@ from dataclasses import dataclass
 
 from . import bounds, budget, plant
 from .description import read
-from .faults import Fault
+from .faults import Fault, Rough, Split
 from .flow import Flow
 from .values import short
 
+REGION = re.compile(r"\bSAFE(?:_\w+)?\b")
+FAULTS = (Fault, Split, Rough, ArithmeticError, RecursionError, UnicodeDecodeError)
 PROMISE = (
     "Samples of these rates are a run of this plant as long as they are in `safe`: each tick a whole number of units, at",
     "most half a unit (where nothing else is said) and the measurement's error away. Where two samples in a row are in",
@@ -35,7 +37,35 @@ class Made:
 def make(text):
     """The plants of a description, and the program behind them."""
     systems, program = read(text)
+    check_regions([system.name for system in systems], program)
     return [made_of(system) for system in systems], program
+
+
+def check_regions(plants, program):
+    """A program has the region of each plant, since another one would not be what is asked."""
+    if not program.strip():
+        return
+    words = set(REGION.findall(program))
+    known = {"SAFE"} | {f"SAFE_{plant}" for plant in plants}
+    for word in sorted(words - known):
+        raise Fault("program", f"{word} names no plant; there may stand {', '.join(sorted(known))}")
+    for k, plant in enumerate(plants):
+        names = ["SAFE", f"SAFE_{plant}"] if k == 0 else [f"SAFE_{plant}"]
+        if not words & set(names):
+            raise Fault("program", f"{' or '.join(names)} is missing: the region of plant {plant}")
+
+
+def fault_text(why):
+    """What is told of an exception of `make`, as one line with its place."""
+    if isinstance(why, Rough):
+        return "state: a kink stands where the series needs more orders"
+    if isinstance(why, RecursionError):
+        return "state: an expression nests too deep, or has too many terms"
+    if isinstance(why, UnicodeDecodeError):
+        return "toml: it is no UTF-8"
+    if isinstance(why, ArithmeticError):
+        return "state: numbers beyond floats"
+    return " ".join(str(why).split())
 
 
 def made_of(system):
@@ -89,7 +119,7 @@ def program_text(made, program, source):
     out += [plant.plant_text(one.system, one.clauses) for one in made]
     if program:
         by = {f"SAFE_{one.system.name}": one.safe for one in made} | {"SAFE": made[0].safe}
-        out.append(re.sub(r"\bSAFE(?:_\w+)?\b", lambda m: by.get(m[0], m[0]), program.strip("\n")))
+        out.append(REGION.sub(lambda m: by[m[0]], program.strip("\n")))
     else:
         out += [f"# safe of {one.system.name}: {one.safe};" for one in made]
     return "\n".join(out) + "\n"

@@ -17,12 +17,14 @@ LARGEST = Q(10) ** 9
 
 
 def check_keys(table, known, place):
+    """The table, whose keys are known ones."""
     if not isinstance(table, dict):
         raise Fault(place, "a table is wanted")
     for key in table:
         if key not in known:
             here = f"{place}.{key}" if place else key
             raise Fault(here, f"no such key; here may stand {', '.join(known)}")
+    return table
 
 
 def need(table, key, place):

@@ -1,5 +1,5 @@
-//! Tests of what a maker of regions stands on: atoms and sets of them, programs with other regions,
-//! and the words and lines of its program.
+//! Tests of what a maker of regions stands on: atoms and sets of them, tubes beside sets, and
+//! programs with other regions.
 #![tactic(auto)]
 
 #[cfg(test)]

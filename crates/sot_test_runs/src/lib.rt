@@ -1,5 +1,5 @@
-//! Certificates of the worked missions, and tests of the layers together: what is accepted and why
-//! not, and how worlds are stepped.
+//! Certificates of the worked missions, and tests of the layers together: nodes and tubes, and how
+//! worlds are stepped.
 //!
 //! Each certificate is made from the cells that are handed in, and fits the tables of its mission
 //! whatever these are, so that a test can hand in cells that do not show what they should.

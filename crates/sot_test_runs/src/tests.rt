@@ -4,7 +4,6 @@ mod doubles;
 mod drive;
 mod histories;
 mod pairs;
-mod verdicts;
 mod worked_nodes;
 mod worked_tubes;
 mod worlds;

@@ -2,6 +2,7 @@
 //! fires with the draft of the line. The answers are those of an independent reader of the format
 //! and of an independent program.
 ghost use Rattle.std.specs.Prelude.{ℕ};
+ghost use Rattle.sot_flight.specs.Fits.{FitsFlight};
 
 use super::*;
 use sot_compose::check_all;

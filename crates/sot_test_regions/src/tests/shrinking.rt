@@ -3,18 +3,18 @@
 
 ghost use Rattle.std.specs.Prelude.{◌≡◌, length};
 
-use super::same;
-use sot_atoms::{AtomSet, Grid, Sums};
-use sot_box::{BoxN, Interval};
+use super::parts::{box_text, interval_of};
+use super::{cut, same};
+use sot_atoms::{Grid, Sums};
+use sot_box::BoxN;
 use sot_invariant_atoms::{
-    Among, ModuleAsk, TubeInAtoms, any_stays, atoms_of, closed_atoms, greatest, held_boxes,
-    held_stays, held_tube,
+    Among, ModuleAsk, any_stays, atoms_of, closed_atoms, greatest, held_boxes, held_stays,
+    held_tube,
 };
 use sot_lang::Typed;
 use sot_parser::parse;
 use sot_text::Lexer;
 use sot_typing::resolve;
-use sot_worked_missions::{drifting_line, line};
 use std::alloc::Global;
 use std::process::Abort;
 
@@ -48,6 +48,62 @@ node slow period 1 offset 0 { reads run; writes u; do { publish u = 0; } }
 module nav { ac fast; sc slow; period 1 offset 0; plant run; safe [0..1000]; safer [0..0]; }
 ";
 
+// A vehicle on a line, which its safe node commands back once it is more than 10 away from 0.
+const LINE: &str = "topic cmd: int[-2..2] = 0;
+plant pos { state x: int; input cmd; noise w: int[-1..1]; next x = (x + cmd) + w; }
+external fast period 4 offset 0 { reads pos; writes cmd; }
+node slow period 2 offset 0 { reads pos; writes cmd;
+  do { publish cmd = if (pos.x > 10) then -2 else (if (pos.x < -10) then 2 else 0); } }
+module nav { ac fast; sc slow; period 4 offset 0; plant pos; safe [-40..40]; safer [-10..10]; }
+";
+
+// The same that divides its disturbance by how far it is past 5: there its tick traps.
+const DRIFTING: &str = "topic cmd: int[-2..2] = 0;
+plant pos { state x: int; input cmd; noise w: int[-1..1]; next x = (x + cmd) + (w / (x - 5)); }
+external fast period 4 offset 0 { reads pos; writes cmd; }
+node slow period 2 offset 0 { reads pos; writes cmd;
+  do { publish cmd = if (pos.x > 10) then -2 else (if (pos.x < -10) then 2 else 0); } }
+module nav { ac fast; sc slow; period 4 offset 0; plant pos; safe [-40..40]; safer [-10..10]; }
+";
+
+// A program, a jitter, what is asked, and the answer. `atoms`: how many the safe region has, how
+// many the greatest set in it, and how many are closed. `tube`: how the held tube of an interval
+// lies to all atoms of the safe region, and whether its held tube and that of any commands stay
+// among them, and in the region. `boxes`: the held tube, a box each tick.
+//
+// The safe node holds 0 from -10 to 10, and the disturbance moves the vehicle by 1 a tick, for 2
+// ticks. Any commands move it by 3 a tick, for 8 ticks, and what is held then for 2. Which command
+// is held from -40 to 40 is not sure, and from 100 on the vehicle is outside of the hull.
+const ROWS: &str = "line 0 atoms => 81 81 81
+line 1 atoms => 81 81 81
+double 0 atoms => 48681 27189 27189
+slow 0 atoms => 17429 16309 16309
+slow 1 atoms => 17429 0 0
+runner 0 atoms => 1001 0 0
+line 0 tube -10..10 => Inside, true true, true true
+line 0 tube -16..16 => Inside, true true, true true
+line 0 tube -17..16 => Inside, true false, true false
+line 0 tube 11..40 => Inside, true false, true false
+line 0 tube -10..38 => Inside, true false, true false
+line 0 tube -10..39 => Leaves, false false, false false
+line 0 tube -40..40 => Leaves, false false, false false
+line 0 tube 100..110 => Apart, false false, false false
+line 0 boxes 0..0 => -1..1; -2..2;
+line 0 boxes 11..40 => 8..39; 5..38;
+line 1 boxes 11..40 => 8..39; 5..38; 2..37;
+line 0 boxes -40..40 => -43..43; -46..46;
+drifting 0 boxes 0..10 => none";
+
+fn program_of(name: &str) -> &'static str {
+    match name {
+        "line" => LINE,
+        "drifting" => DRIFTING,
+        "double" => DOUBLE,
+        "slow" => SLOW,
+        _ => RUNNER,
+    }
+}
+
 #[tactic(auto, using(sot_law_print_parse::proofs::FormedPrograms::spelled_formed))]
 fn typed(rt: &impl Abort, alloc: Global, text: &str) -> Typed {
     if text.len() > 10_000 {
@@ -62,148 +118,103 @@ fn typed(rt: &impl Abort, alloc: Global, text: &str) -> Typed {
     }
 }
 
-// The finest grid of the safe region of the module that is asked about.
-fn finest(rt: &impl Abort, ask: &ModuleAsk<'_>) -> Grid {
-    let hull = ask.info().safe.hull().expect(rt, "a hull");
-    Grid::of(&hull, 33_554_432, 0).expect(rt, "a grid")
-}
-
-// How many atoms of the safe region there are, and how many of them are in the greatest set.
-fn counts(rt: &impl Abort, alloc: Global, p: &Typed, jitter: u32) -> (usize, usize) {
-    let ask = ModuleAsk::new(p, 0, jitter).expect(rt, "a module");
+// How many atoms the safe region has, how many of them the greatest set, and how many are closed.
+fn atoms_text(rt: &impl Abort, alloc: Global, ask: &ModuleAsk<'_>, grid: &Grid) -> String {
     let safe = &ask.info().safe;
-    let grid = finest(rt, &ask);
     if grid.width() != ask.width() || safe.len() == 0 || safe.at(0).len() != grid.width() {
         panic!(rt; "another width");
     }
-    let mut set = atoms_of(alloc, &grid, safe).expect(rt, "memory");
+    let mut set = atoms_of(alloc, grid, safe).expect(rt, "memory");
     let asked = set.members();
-    greatest(alloc, &ask, &grid, &mut set).expect(rt, "memory");
-    let closed = closed_atoms(alloc, &ask, &grid).expect(rt, "memory");
-    same(rt, "closed", closed.members(), set.members());
-    (asked, set.members())
+    greatest(alloc, ask, grid, &mut set).expect(rt, "memory");
+    let closed = closed_atoms(alloc, ask, grid).expect(rt, "memory");
+    format!(in alloc; "{asked} {} {}", set.members(), closed.members()).expect(rt, "memory")
 }
 
-#[test]
-fn the_greatest_sets_have_so_many_atoms(rt: HostRuntime) {
-    let line = line(rt.alloc()).expect(&rt, "memory");
-    for (jitter, wanted) in [(0, (81, 81)), (1, (81, 81))] {
-        same(&rt, jitter, counts(&rt, rt.alloc(), &line, jitter), wanted);
-    }
-    for (text, jitter, wanted) in [
-        (DOUBLE, 0, (48_681, 27_189)),
-        (SLOW, 0, (17_429, 16_309)),
-        (SLOW, 1, (17_429, 0)),
-        (RUNNER, 0, (1001, 0)),
-    ] {
-        let p = typed(&rt, rt.alloc(), text);
-        same(
-            &rt,
-            (text, jitter),
-            counts(&rt, rt.alloc(), &p, jitter),
-            wanted,
-        );
-    }
-}
-
-fn side(rt: &impl Abort, lo: i64, hi: i64) -> BoxN
+fn side(rt: &impl Abort, text: &str) -> BoxN
     ensures { length result ≡ 1 }
 {
-    let numbers = Interval::new(lo, hi).expect(rt, "an interval");
-    BoxN::of(&[numbers]).expect(rt, "a box")
+    BoxN::of(&[interval_of(rt, text)]).expect(rt, "a box")
 }
 
-// How the tubes of an interval lie to all atoms of a vehicle's safe region.
-fn tubes_are(
+// Whether the held tube of an interval stays, and the tube of any commands.
+fn stays_text(
     rt: &impl Abort,
     alloc: Global,
     ask: &ModuleAsk<'_>,
-    from: (i64, i64),
-    held: TubeInAtoms,
-    any: TubeInAtoms,
-) {
+    area: &BoxN,
+    among: Among<'_>,
+) -> String {
+    if ask.width() != area.len() {
+        panic!(rt; "another width");
+    }
+    let (held, any) = (held_stays(ask, area, among), any_stays(ask, area, among));
+    format!(in alloc; "{held} {any}").expect(rt, "memory")
+}
+
+// How the tubes of an interval lie to all atoms of a vehicle's safe region, and to the region.
+fn tube_text(
+    rt: &impl Abort,
+    alloc: Global,
+    ask: &ModuleAsk<'_>,
+    grid: &Grid,
+    from: &str,
+) -> String {
     let safe = &ask.info().safe;
-    let area = side(rt, from.0, from.1);
-    let grid = finest(rt, ask);
+    let area = side(rt, from);
     if ask.width() != 1 || grid.width() != 1 || safe.len() == 0 || safe.at(0).len() != 1 {
         panic!(rt; "another width");
     }
-    let set = atoms_of(alloc, &grid, safe).expect(rt, "memory");
-    let sums = Sums::of(alloc, &grid, &set).expect(rt, "memory");
-    same(rt, from, held_tube(ask, &area, &grid, &set), held);
-    for among in [Among::Atoms(&grid, &sums), Among::Region(safe)] {
-        same(
-            rt,
-            from,
-            held_stays(ask, &area, among),
-            held == TubeInAtoms::Inside,
-        );
-        same(
-            rt,
-            from,
-            any_stays(ask, &area, among),
-            any == TubeInAtoms::Inside,
-        );
-    }
+    let set = atoms_of(alloc, grid, safe).expect(rt, "memory");
+    let sums = Sums::of(alloc, grid, &set).expect(rt, "memory");
+    let held = held_tube(ask, &area, grid, &set);
+    let atoms = stays_text(rt, alloc, ask, &area, Among::Atoms(grid, &sums));
+    let region = stays_text(rt, alloc, ask, &area, Among::Region(safe));
+    format!(in alloc; "{held:?}, {atoms}, {region}").expect(rt, "memory")
 }
 
-#[test]
-fn tubes_are_compared_with_a_set(rt: HostRuntime) {
-    let p = line(rt.alloc()).expect(&rt, "memory");
-    let ask = ModuleAsk::new(&p, 0, 0).expect(&rt, "a module");
-    for (from, held, any) in [
-        // the safe node holds 0 from here, and the disturbance moves it by 1 a tick, for 2 ticks
-        ((-10, 10), TubeInAtoms::Inside, TubeInAtoms::Inside),
-        // any commands move it by 3 a tick, for 8 ticks, and what is held here for 2
-        ((-16, 16), TubeInAtoms::Inside, TubeInAtoms::Inside),
-        ((-17, 16), TubeInAtoms::Inside, TubeInAtoms::Leaves),
-        ((11, 40), TubeInAtoms::Inside, TubeInAtoms::Leaves),
-        ((-10, 38), TubeInAtoms::Inside, TubeInAtoms::Leaves),
-        ((-10, 39), TubeInAtoms::Leaves, TubeInAtoms::Leaves),
-        // which command is held is not sure here
-        ((-40, 40), TubeInAtoms::Leaves, TubeInAtoms::Leaves),
-        // outside of the set, and of its hull
-        ((100, 110), TubeInAtoms::Apart, TubeInAtoms::Apart),
-    ] {
-        tubes_are(&rt, rt.alloc(), &ask, from, held, any);
-    }
-}
-
-// The ends of the boxes of the held tube of an interval, or none.
-fn ends(rt: &impl Abort, alloc: Global, ask: &ModuleAsk<'_>, lo: i64, hi: i64) -> Option<String> {
+// The boxes of the held tube of an interval, with a sign behind each, or `none`.
+fn boxes_text(rt: &impl Abort, alloc: Global, ask: &ModuleAsk<'_>, from: &str) -> String {
     if ask.width() != 1 {
         panic!(rt; "another width");
     }
-    let boxes = held_boxes(alloc, ask, &side(rt, lo, hi)).expect(rt, "memory")?;
+    let found = held_boxes(alloc, ask, &side(rt, from)).expect(rt, "memory");
+    let Some(boxes) = found else {
+        return String::from_str(alloc, "none").expect(rt, "memory");
+    };
     let mut text = String::new(alloc);
+    let mut blank = "";
     for b in &boxes {
-        if b.len() != 1 {
-            panic!(rt; "another width");
-        }
-        let side = b.side(0);
-        let ends = format!(in alloc; "{}..{} ", side.lo, side.hi).expect(rt, "memory");
-        text.push_str(ends.as_str()).expect(rt, "memory");
+        let ends = box_text(rt, alloc, b);
+        let piece = format!(in alloc; "{blank}{};", ends.as_str()).expect(rt, "memory");
+        text.push_str(piece.as_str()).expect(rt, "memory");
+        blank = " ";
     }
-    Some(text)
+    text
+}
+
+// What is asked of the finest grid of the first module's safe region.
+fn told(rt: &impl Abort, alloc: Global, p: &Typed, jitter: u32, asked: &str) -> String {
+    let ask = ModuleAsk::new(p, 0, jitter).expect(rt, "a module");
+    let hull = ask.info().safe.hull().expect(rt, "a hull");
+    let grid = Grid::of(&hull, 33_554_432, 0).expect(rt, "a grid");
+    let (word, text) = asked.split_once(' ').unwrap_or((asked, ""));
+    match word {
+        "atoms" => atoms_text(rt, alloc, &ask, &grid),
+        "tube" => tube_text(rt, alloc, &ask, &grid, text),
+        _ => boxes_text(rt, alloc, &ask, text),
+    }
 }
 
 #[test]
-fn held_tubes_have_a_box_each_tick(rt: HostRuntime) {
-    let alloc = rt.alloc();
-    let p = line(alloc).expect(&rt, "memory");
-    let drifting = drifting_line(alloc).expect(&rt, "memory");
-    for (p, jitter, lo, hi, wanted) in [
-        (&p, 0, 0, 0, Some("-1..1 -2..2 ")),
-        (&p, 0, 11, 40, Some("8..39 5..38 ")),
-        (&p, 1, 11, 40, Some("8..39 5..38 2..37 ")),
-        (&p, 0, -40, 40, Some("-43..43 -46..46 ")),
-        // its tick divides by how far it is past 5
-        (&drifting, 0, 0, 10, None),
-    ] {
-        let ask = ModuleAsk::new(p, 0, jitter).expect(&rt, "a module");
-        match ends(&rt, alloc, &ask, lo, hi) {
-            Some(text) => same(&rt, (lo, hi), Some(text.as_str()), wanted),
-            None => same(&rt, (lo, hi), None, wanted),
-        }
+fn tubes_and_greatest_sets_are_as_worked_out(rt: HostRuntime) {
+    for row in ROWS.lines() {
+        let (question, want) = cut(&rt, row, " => ");
+        let (name, behind) = cut(&rt, question, " ");
+        let (jitter, asked) = cut(&rt, behind, " ");
+        let p = typed(&rt, rt.alloc(), program_of(name));
+        let jitter = jitter.parse().ok().expect(&rt, "a jitter");
+        let got = told(&rt, rt.alloc(), &p, jitter, asked);
+        same(&rt, question, got.as_str(), want);
     }
 }

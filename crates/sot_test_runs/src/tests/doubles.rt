@@ -1,74 +1,19 @@
-//! The double integrator: verdicts, its cells, and a run into a corner of its safe region. All
-//! numbers were worked out by hand, and again by a program that was written from the rules alone.
+//! The double integrator: a run into a corner of its safe region. All numbers were worked out by hand, and again by a program that was written from the rules alone.
 
-ghost use Rattle.std.specs.Prelude.{◌≡◌, ◌≤ℤ◌, ◌∷◌, [], pos, negsuc, IfOk};
+ghost use Rattle.std.specs.Prelude.{◌≡◌, ◌∷◌, [], pos, negsuc, IfOk};
 ghost use Rattle.sot_worked_missions.specs.Double.{IsDouble};
 
 use super::drive::step;
 use super::same;
-use super::verdicts::{judged, side};
 use super::worlds::{accepted, draft};
 use crate::double_cert;
-use sot_box::{BoxN, Point};
-use sot_lang::{Cert, Typed};
-use sot_rta::Refusal;
+use sot_box::Point;
+use sot_lang::Typed;
 use sot_tube::Accepted;
 use sot_worked_missions::double;
 use sot_world::{Event, OpenFail, World};
-use std::alloc::{AllocError, Global};
+use std::alloc::Global;
 use std::process::Abort;
-use std::thread::Threads;
-
-// Whether the arm is accepted where `fast` is trusted between these places.
-fn answer(
-    rt: &(impl Threads + Sync),
-    alloc: Global,
-    low: i64,
-    high: i64,
-) -> Result<Result<(), Refusal>, AllocError>
-    requires { low ≤ℤ high }
-{
-    let p = double(alloc, low, high)?;
-    let c = double_cert(alloc, low, high)?;
-    Ok(judged(rt, &p, &c))
-}
-
-// How many closed cells and reach cells its certificate has.
-fn counts(c: &Cert) -> Option<(usize, usize)> {
-    if c.modules.len() != 1 {
-        return None;
-    }
-    match &c.modules[0] {
-        Some(cells) => Some((cells.closed.len(), cells.reach.len())),
-        None => None,
-    }
-}
-
-// Where an arm that is trusted up to 170 first leaves.
-fn leaves() -> Refusal {
-    Refusal::ReachLeaves {
-        module: 0,
-        cell: 0,
-        tick: 4,
-        area: BoxN::of(&[side(-196, 196), side(-14, 14)]).unwrap(),
-        point: Point::of(&[-196, -14]).unwrap(),
-    }
-}
-
-#[test]
-fn an_arm_is_accepted_or_refused(rt: HostRuntime) {
-    let alloc = rt.alloc();
-    let narrow = answer(&rt, alloc, -169, 169).expect(&rt, "memory");
-    same(&rt, 169, narrow, Ok(()));
-    let wide = answer(&rt, alloc, -170, 170).expect(&rt, "memory");
-    same(&rt, 170, wide, Err(leaves()));
-}
-
-#[test]
-fn an_arm_has_58_closed_cells(rt: HostRuntime) {
-    let c = double_cert(rt.alloc(), -169, 169).expect(&rt, "memory");
-    same(&rt, "cells", counts(&c), Some((58, 1)));
-}
 
 // A place and a speed.
 fn moving(place: i64, speed: i64) -> Point

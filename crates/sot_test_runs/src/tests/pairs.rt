@@ -1,75 +1,20 @@
-//! The vehicle beside a battery: verdicts, and one instant in all its orders.
+//! The vehicle beside a battery: one instant in all its orders.
 
-// The vehicle beside a battery that sees it. All numbers were worked out by hand, and those of the
-// checks again by a program that was written from the rules alone.
-ghost use Rattle.std.specs.Prelude.{◌≡◌, ◌≤ℤ◌, ◌∷◌, [], pos, IfOk};
+// The vehicle beside a battery that sees it. All numbers were worked out by hand.
+ghost use Rattle.std.specs.Prelude.{◌≡◌, ◌∷◌, [], pos, IfOk};
 ghost use Rattle.sot_worked_missions.specs.Pair.{IsPair};
 
 use super::drive::step;
 use super::same;
-use super::verdicts::{judged, side};
 use super::worlds::{accepted, at, draft};
 use crate::pair_cert;
-use sot_box::{BoxN, Point};
-use sot_lang::{Cert, Typed};
-use sot_rta::Refusal;
+use sot_box::Point;
+use sot_lang::Typed;
 use sot_tube::Accepted;
 use sot_worked_missions::pair;
 use sot_world::{Event, OpenFail, World};
-use std::alloc::{AllocError, Global};
+use std::alloc::Global;
 use std::process::Abort;
-use std::thread::Threads;
-
-// Whether the pair is accepted where `up` is trusted with a battery of at least this.
-fn answer(
-    rt: &(impl Threads + Sync),
-    alloc: Global,
-    low: i64,
-) -> Result<Result<(), Refusal>, AllocError>
-    requires { low ≤ℤ pos 1000 }
-{
-    let p = pair(alloc, low)?;
-    let c = pair_cert(alloc, low)?;
-    Ok(judged(rt, &p, &c))
-}
-
-// How many closed cells and reach cells a module has.
-fn counts(c: &Cert, module: usize) -> Option<(usize, usize)> {
-    if module >= c.modules.len() {
-        return None;
-    }
-    match &c.modules[module] {
-        Some(cells) => Some((cells.closed.len(), cells.reach.len())),
-        None => None,
-    }
-}
-
-// Where the pair with that battery first leaves.
-fn leaves() -> Refusal {
-    Refusal::ReachLeaves {
-        module: 1,
-        cell: 0,
-        tick: 4,
-        area: BoxN::of(&[side(0, 10), side(29, 1000)]).unwrap(),
-        point: Point::of(&[10, 29]).unwrap(),
-    }
-}
-
-#[test]
-fn a_pair_is_accepted_or_refused(rt: HostRuntime) {
-    let alloc = rt.alloc();
-    let charged = answer(&rt, alloc, 42).expect(&rt, "memory");
-    same(&rt, 42, charged, Ok(()));
-    let low = answer(&rt, alloc, 41).expect(&rt, "memory");
-    same(&rt, 41, low, Err(leaves()));
-}
-
-#[test]
-fn a_pair_has_sixteen_cells(rt: HostRuntime) {
-    let c = pair_cert(rt.alloc(), 42).expect(&rt, "memory");
-    same(&rt, 0, counts(&c, 0), Some((3, 1)));
-    same(&rt, 1, counts(&c, 1), Some((11, 1)));
-}
 
 // A height and a battery.
 fn charge(height: i64, battery: i64) -> Point

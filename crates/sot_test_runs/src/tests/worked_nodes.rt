@@ -1,5 +1,4 @@
-//! The nodes and the plant of worked missions, run and looked at for traps. What they should do was
-//! worked out by hand.
+//! The nodes and the plant of worked missions, run. What they should do was worked out by hand.
 ghost use Rattle.std.specs.Prelude.{◌≡◌, ◌∷◌, []};
 ghost use Rattle.sot_code.specs.Recorded.{MayRun};
 
@@ -7,11 +6,9 @@ use super::same;
 use super::worlds::at;
 use sot_box::Point;
 use sot_code::{Locals, Seen, plant_next, run_node};
-use sot_iv::MayTrap;
 use sot_lang::{Trap, TrapKind, Typed};
 use sot_text::Span;
-use sot_traps::trap_free;
-use sot_worked_missions::{divide, divide_by_at_least_one, line};
+use sot_worked_missions::{divide, line};
 use std::alloc::{AllocError, Global};
 use std::process::Abort;
 
@@ -86,44 +83,6 @@ fn nodes_draft_and_trap(rt: HostRuntime) {
     slow_drafts(&rt, alloc, 12, -2);
     slow_drafts(&rt, alloc, 0, 0);
     slow_drafts(&rt, alloc, -12, 2);
-}
-
-// Whether `calc` never traps.
-fn calc_is_free(alloc: Global) -> Result<Result<(), MayTrap>, AllocError> {
-    let p = divide(alloc)?;
-    Ok(trap_free(&p, 0))
-}
-
-// Whether `calc` never traps where it divides by at least 1.
-fn guarded_calc_is_free(alloc: Global) -> Result<Result<(), MayTrap>, AllocError> {
-    let p = divide_by_at_least_one(alloc)?;
-    Ok(trap_free(&p, 0))
-}
-
-// Whether `slow` never traps.
-fn slow_is_free(alloc: Global) -> Result<Result<(), MayTrap>, AllocError> {
-    let p = line(alloc)?;
-    Ok(trap_free(&p, 1))
-}
-
-fn may_trap() -> MayTrap {
-    MayTrap {
-        at: DIVISION,
-        kind: TrapKind::ZeroDivisor,
-        lo: 0,
-        hi: 5,
-    }
-}
-
-#[test]
-fn a_division_by_what_may_be_nought_may_trap(rt: HostRuntime) {
-    let alloc = rt.alloc();
-    let calc = calc_is_free(alloc).expect(&rt, "memory");
-    same(&rt, "calc", calc, Err(may_trap()));
-    let guarded = guarded_calc_is_free(alloc).expect(&rt, "memory");
-    same(&rt, "guarded calc", guarded, Ok(()));
-    let slow = slow_is_free(alloc).expect(&rt, "memory");
-    same(&rt, "slow", slow, Ok(()));
 }
 
 #[test]

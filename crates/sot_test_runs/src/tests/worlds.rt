@@ -1,16 +1,15 @@
 //! The vehicle on a line, opened and stepped. What comes of each step was worked out by hand, and
 //! the flight again by a program that was written from the rules alone.
 
-ghost use Rattle.std.specs.Prelude.{◌≡◌, ◌∷◌, [], IfOk};
+ghost use Rattle.std.specs.Prelude.{◌≤ℤ◌, ◌≡◌, ◌∷◌, [], IfOk};
 ghost use Rattle.sot_lang.specs.CertRules.{FitsTables};
 ghost use Rattle.sot_worked_missions.specs.Line.{IsLine, IsMove};
 ghost use Rattle.sot_test_runs.specs.Entries.{FitsAll};
 
 use super::drive::happen;
 use super::same;
-use super::verdicts::side;
 use crate::line_cert;
-use sot_box::Point;
+use sot_box::{Interval, Point};
 use sot_compose::check_all;
 use sot_lang::{Cert, Draft, Typed};
 use sot_tube::Accepted;
@@ -24,6 +23,13 @@ pub(super) fn at(x: i64) -> Point
     ensures { result ≡ x ∷ [] }
 {
     Point::of(&[x]).unwrap()
+}
+
+fn side(lo: i64, hi: i64) -> Interval
+    requires { lo ≤ℤ hi }
+    ensures { result ≡ record { lo = lo; hi = hi } }
+{
+    Interval { lo, hi }
 }
 
 // The certificate with its three closed cells and its reach cell.
