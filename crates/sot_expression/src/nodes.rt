@@ -1,6 +1,7 @@
 //! The nodes of a tree, above parts that were read.
 ghost use Rattle.std.specs.Prelude.{◌≡◌};
-ghost use Rattle.sot_syntax_tree.specs.Trees.{binary, rest, negated, denied, called, one_more, no_tree};
+ghost use Rattle.sot_syntax_tree.specs.Trees.{binary, rest, negated, denied, called, one_more};
+ghost use Rattle.sot_syntax_tree.specs.Trees.{no_tree};
 ghost use Rattle.sot_syntax_tree.specs.Trees.{rescaled, chosen};
 ghost use Rattle.sot_syntax_tree.specs.TreeViews.{tree_view, parts_view};
 ghost use Rattle.sot_expression.specs.Returned.{Makes};

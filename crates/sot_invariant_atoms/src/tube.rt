@@ -5,7 +5,8 @@ ghost use Rattle.sot_box.specs.Boxes.{IsWithin};
 ghost use Rattle.sot_law_invariant_regions.specs.Following.{LiesAmong};
 ghost use Rattle.sot_invariant_atoms.specs.Greatest.{IsAmong};
 ghost use Rattle.sot_invariant_atoms.specs.Walking.{LeavesSet, IsApartFrom};
-ghost use Rattle.sot_invariant_atoms.specs.declared.tube.TubeInAtoms.TheVariants.{Inside, Leaves, Apart};
+ghost use Rattle.sot_invariant_atoms.specs.declared.tube.TubeInAtoms.TheVariants.{Inside, Leaves};
+ghost use Rattle.sot_invariant_atoms.specs.declared.tube.TubeInAtoms.TheVariants.{Apart};
 
 use crate::walk::Walk;
 use sot_atoms::{AtomSet, Grid};

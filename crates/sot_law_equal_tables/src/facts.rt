@@ -1,6 +1,7 @@
 //! Worked expressions and statements that are the same without places, or not, and the running
 //! example, which is one.
-ghost use Rattle.sot_law_equal_tables.specs.Examples.{PlacesDoNotCount, OperandsCount, TargetsCount};
+ghost use Rattle.sot_law_equal_tables.specs.Examples.{PlacesDoNotCount, OperandsCount};
+ghost use Rattle.sot_law_equal_tables.specs.Examples.{TargetsCount};
 ghost use Rattle.sot_law_equal_tables.specs.OneLine.{MadeTablesAreTheLine, WorkedTablesAreTheLine};
 
 /// Worked expressions and statements of tables: where they stand does not count; operators,

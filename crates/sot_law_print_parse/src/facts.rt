@@ -1,5 +1,6 @@
 //! Worked programs that are the same, or not.
-ghost use Rattle.sot_law_print_parse.specs.Examples.{PlacesDoNotCount, WordsCount, DeclarationsCount};
+ghost use Rattle.sot_law_print_parse.specs.Examples.{PlacesDoNotCount, WordsCount};
+ghost use Rattle.sot_law_print_parse.specs.Examples.{DeclarationsCount};
 ghost use Rattle.sot_law_print_parse.specs.Examples.{BranchesCount, EmptyElseIsNone};
 
 /// Worked programs: where their parts stand does not count, and all else does.

@@ -1,5 +1,6 @@
 //! Each of these functions does nothing, and its contract is the law.
-ghost use Rattle.sot_law_runs.specs.RecoveryLaws.{RanksRecover, RunsRecover, RunsHold, GuardedModules};
+ghost use Rattle.sot_law_runs.specs.RecoveryLaws.{RanksRecover, RunsRecover, RunsHold};
+ghost use Rattle.sot_law_runs.specs.RecoveryLaws.{GuardedModules};
 ghost use Rattle.sot_law_runs.specs.RecoveryLaws.{RankZeroKeeps, RanksAreOne, HoldsStaySafe};
 
 /// A module of a certified program is recovered within as many holds as its rank.

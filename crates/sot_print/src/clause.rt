@@ -1,7 +1,8 @@
 //! Clauses of declarations.
 ghost use Rattle.std.specs.Prelude.{◌≡◌, ◌∷◌, ◌++◌, [], codes, OnOk};
 ghost use Rattle.std.specs.String.{string_bytes};
-ghost use Rattle.sot_syntax_tree.specs.TreeViews.{tree_view, next_view, local_view, shape_view, init_view};
+ghost use Rattle.sot_syntax_tree.specs.TreeViews.{tree_view, next_view, local_view, shape_view};
+ghost use Rattle.sot_syntax_tree.specs.TreeViews.{init_view};
 ghost use Rattle.sot_print.specs.declared.gap.Gap.TheVariants.{Touching, Space, Line};
 ghost use Rattle.sot_print.specs.Words.{laid, keyword};
 ghost use Rattle.sot_print.specs.Leaves.{listed, ident_words, constant_words, bounds_words};

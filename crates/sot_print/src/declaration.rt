@@ -2,7 +2,8 @@
 ghost use Rattle.std.specs.Prelude.{◌≡◌, ◌∷◌, ◌==◌, ◌++◌, true, map, OnOk};
 ghost use Rattle.std.specs.String.{string_bytes};
 ghost use Rattle.sot_syntax_tree.specs.TreeViews.{topic_view, next_view, plant_view, local_view};
-ghost use Rattle.sot_syntax_tree.specs.TreeViews.{node_view, area_view, module_view, declaration_view};
+ghost use Rattle.sot_syntax_tree.specs.TreeViews.{node_view, area_view, module_view};
+ghost use Rattle.sot_syntax_tree.specs.TreeViews.{declaration_view};
 ghost use Rattle.sot_syntax_tree.specs.TreeViews.{block_view};
 ghost use Rattle.sot_print.specs.declared.gap.Gap.TheVariants.{Space};
 ghost use Rattle.sot_print.specs.Words.{laid, keyword};

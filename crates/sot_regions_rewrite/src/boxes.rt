@@ -2,7 +2,8 @@
 
 ghost use Rattle.std.specs.Prelude.{◌≡◌, map, IfOk};
 ghost use Rattle.sot_syntax_tree.specs.TreeViews.{area_view};
-ghost use Rattle.sot_regions_rewrite.specs.OtherRegions.{end_like, bounds_like, area_like, areas_like};
+ghost use Rattle.sot_regions_rewrite.specs.OtherRegions.{end_like, bounds_like, area_like};
+ghost use Rattle.sot_regions_rewrite.specs.OtherRegions.{areas_like};
 
 use sot_box::{BoxN, Interval, Region};
 use sot_syntax_tree::{Bounds, BoxDecl, Lit};

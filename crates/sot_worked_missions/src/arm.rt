@@ -8,7 +8,8 @@ ghost use Rattle.sot_worked_missions.specs.Parts.{one_topic, whole_number};
 ghost use Rattle.sot_worked_missions.specs.Double.{u_name, IsNextPlace, IsNextSpeed, IsArm, IsPush};
 ghost use Rattle.sot_worked_missions.specs.Double.{IsThrust, IsPilot, IsBrake, IsDouble};
 ghost use Rattle.sot_worked_missions.specs.Double.{run as run_of, falling as falling_box};
-ghost use Rattle.sot_worked_missions.specs.Double.{rising as rising_box, row as row_box, rows, stops};
+ghost use Rattle.sot_worked_missions.specs.Double.{rising as rising_box, row as row_box, rows};
+ghost use Rattle.sot_worked_missions.specs.Double.{stops};
 
 use crate::parts::{binary, choice, node, noise, number, plant, span, topic};
 use sot_box::{BoxN, Interval, Region};

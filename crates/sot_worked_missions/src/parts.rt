@@ -2,7 +2,8 @@
 ghost use Rattle.std.specs.Prelude.{false, ◌≡◌, ◌≤ℤ◌, ◌∷◌, [], IfOk};
 ghost use Rattle.sot_text.specs.declared.token.Kind.TheVariants.{Name as NameKind};
 ghost use Rattle.sot_text.specs.Lexeme.{IsTokenText};
-ghost use Rattle.sot_worked_missions.specs.Parts.{one_topic, whole_number, place, IsBinary, IsChoice};
+ghost use Rattle.sot_worked_missions.specs.Parts.{one_topic, whole_number, place, IsBinary};
+ghost use Rattle.sot_worked_missions.specs.Parts.{IsChoice};
 
 use sot_box::{BoxN, Interval, Region};
 use sot_lang::{Act, NodeInfo, NoiseInfo, PlantInfo, ScalarInfo, Slot, StateInfo, Term, TopicInfo};

@@ -7,8 +7,10 @@ ghost use Rattle.sot_lang.specs.TermRules.{TermFits};
 ghost use Rattle.sot_syntax_tree.specs.declared.operator.Op.TheVariants.{Less};
 ghost use Rattle.sot_lang.specs.declared.term.Term.{Term};
 ghost use Rattle.sot_lang.specs.declared.term.Term.TheVariants.{Number, Place};
-ghost use Rattle.sot_worked_missions.specs.Parts.{one_topic, whole_number, place, IsBinary, IsChoice};
-ghost use Rattle.sot_worked_missions.specs.Line.{IsMove, IsDrift, IsPos, IsReturn, IsCommand, IsFast};
+ghost use Rattle.sot_worked_missions.specs.Parts.{one_topic, whole_number, place, IsBinary};
+ghost use Rattle.sot_worked_missions.specs.Parts.{IsChoice};
+ghost use Rattle.sot_worked_missions.specs.Line.{IsMove, IsDrift, IsPos, IsReturn, IsCommand};
+ghost use Rattle.sot_worked_missions.specs.Line.{IsFast};
 ghost use Rattle.sot_worked_missions.specs.Line.{IsSlow, IsLine, nav};
 
 use crate::parts::{binary, choice, interval, node, noise, number, span, topic};

@@ -1,7 +1,8 @@
 //! Puts the names of an owner's lists behind one another, each with what it stands for.
 ghost use Rattle.std.specs.Prelude.{◌≡◌, ◌++◌, OnOk, map, filter_map, option_map};
 ghost use Rattle.std.specs.Option.{option_to_list};
-ghost use Rattle.sot_syntax_tree.specs.TreeViews.{topic_view, plant_view, local_view, declaration_view};
+ghost use Rattle.sot_syntax_tree.specs.TreeViews.{topic_view, plant_view, local_view};
+ghost use Rattle.sot_syntax_tree.specs.TreeViews.{declaration_view};
 ghost use Rattle.sot_rules.specs.Names.{meaning, topic_thing, plant_thing, local_thing};
 ghost use Rattle.sot_rules.specs.Names.{state_thing, noise_thing};
 ghost use Rattle.sot_rules.specs.Indexes.{program_in, IsIndex};
