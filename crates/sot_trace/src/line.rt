@@ -17,7 +17,7 @@ use sot_text_output::Out;
 use sot_world::{Entry, Mode};
 
 /// The line of an input without its line end: its time, its topic, and a number for each scalar.
-pub fn put_input<O: Out>(out: &mut O, p: &Typed, time: u32, topic: u32, value: &[i64])
+pub fn put_input<O: Out>(out: &mut O, p: &Typed, time: u64, topic: u32, value: &[i64])
     ensures { O.puts out.old out.new (line_of p.now (InputAt time topic value.now)) }
 {
     put_time(out, time);
@@ -52,7 +52,7 @@ pub fn writes_of(p: &Typed, node: u32) -> &[u32]
 pub fn put_firing<O: Out>(
     out: &mut O,
     p: &Typed,
-    time: u32,
+    time: u64,
     node: u32,
     draft: &Draft,
     enabled: bool,
@@ -78,7 +78,7 @@ fn put_mode<O: Out>(out: &mut O, mode: Mode)
 }
 
 /// The line of a decision without its line end: its time, its module, and the mode after it.
-pub fn put_decision<O: Out>(out: &mut O, p: &Typed, time: u32, decider: u32, mode: Mode)
+pub fn put_decision<O: Out>(out: &mut O, p: &Typed, time: u64, decider: u32, mode: Mode)
     ensures { O.puts out.old out.new (line_of p.now (DecideAt time decider mode)) }
 {
     put_time(out, time);
@@ -92,7 +92,7 @@ pub fn put_tick<O: Out>(out: &mut O, p: &Typed, time: u32, noise: &[i64], states
     requires { FitsEntry p.now (TickAt time noise.now states.now) }
     ensures { O.puts out.old out.new (line_of p.now (TickAt time noise.now states.now)) }
 {
-    put_time(out, time);
+    put_time(out, time as u64);
     out.put(" tick");
     put_moves(out, &p.plants, noise, states)
 }
@@ -107,7 +107,7 @@ pub fn put_entry<O: Out>(out: &mut O, p: &Typed, entry: &Entry<'_>) -> u8
     // By reference: a draft is large, and mostly fresh.
     match entry {
         Entry::Input { time, topic, value } => {
-            put_input(out, p, *time, *topic, value);
+            put_input(out, p, *time as u64, *topic, value);
             0
         }
         Entry::Fire {
@@ -115,9 +115,9 @@ pub fn put_entry<O: Out>(out: &mut O, p: &Typed, entry: &Entry<'_>) -> u8
             node,
             draft,
             enabled,
-        } => put_firing(out, p, *time, *node, draft, *enabled),
+        } => put_firing(out, p, *time as u64, *node, draft, *enabled),
         Entry::Decide { time, module, mode } => {
-            put_decision(out, p, *time, *module, *mode);
+            put_decision(out, p, *time as u64, *module, *mode);
             0
         }
         Entry::Tick {

@@ -52,11 +52,11 @@ fn put_short<O: Out>(out: &mut O, number: u32)
 }
 
 /// A time or a place in decimal.
-pub fn put_time<O: Out>(out: &mut O, time: u32)
+pub fn put_time<O: Out>(out: &mut O, time: u64)
     ensures { O.puts out.old out.new (numeral time) }
 {
     if time < 1000 {
-        return put_short(out, time);
+        return put_short(out, time as u32);
     }
     out.put(Buffer::new().format(time))
 }
