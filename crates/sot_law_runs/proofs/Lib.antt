@@ -15,4 +15,7 @@ pub mod Rows
 pub mod Between
 pub mod Stays
 pub mod Runs
+pub mod Trusts
+pub mod SpringSteps
+pub mod SpringHolds
 pub mod OneRank

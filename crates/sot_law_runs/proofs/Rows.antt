@@ -1,5 +1,5 @@
 -- Rows of holds, and ranks.
-use Rattle.std.proofs.Common.{◌≡◌, ℕ, zero, suc, ◌-◌, ◌≤◌, ℤ, inl, inr, List, [], ◌∷◌, sym, subst, arith, length}
+use Rattle.std.proofs.Common.{◌≡◌, ℕ, zero, suc, ◌≤◌, ℤ, inl, inr, List, [], ◌∷◌, sym, subst, arith, length}
 use Rattle.std.proofs.lemmas.Option.{same_Some, none-some}
 use Rattle.sot_lists.specs.Places.{At, Has}
 use Rattle.sot_lists.proofs.Places.{at_same, at_below}

@@ -6,6 +6,7 @@ pub mod Openings
 pub mod Firings
 pub mod TubeBoxes
 pub mod Examples
+pub mod Spring
 pub mod Holds
 pub mod Ranks
 pub mod RunHolds

@@ -1,6 +1,6 @@
 -- Holds in runs.
-use Rattle.std.specs.Prelude.{ℕ, ◌-◌, ℤ, List, [], ◌∷◌, ◌++◌, ◌≡◌, ◌≤◌, ◌+◌, length}
-use Rattle.std.specs.Prelude.{drop}
+use Rattle.std.specs.Prelude.{ℕ, ◌-◌, ℤ, Bool, true, false, List, [], ◌∷◌, ◌++◌, ◌≡◌, ◌≤◌, ◌+◌}
+use Rattle.std.specs.Prelude.{◌⊎◌, length, drop}
 use Rattle.sot_lists.specs.Places.{At}
 use Rattle.sot_lang.specs.declared.cert.Cert.{Cert}
 use Rattle.sot_lang.specs.Tables.{Tables}
@@ -42,12 +42,34 @@ FiringsAreHolds {p} {cert} {m} g =
     IsHold g (point_of D g.info.plant)
     (points_after g.info.plant between (drop (length first + 1) Ds))
 
--- n whole holds lie between n + 1 firings: after them the decision that comes next trusts the
--- advanced node
+-- an event is a tick
+abbrev pub is_tick : Event → Bool
+is_tick (Input topic value) = false
+is_tick (Code n) = false
+is_tick (Guest n draft) = false
+is_tick (Decide m) = false
+is_tick (Tick noise) = true
+
+-- a stretch ends in a whole hold: behind n firings of the safe node come at least as many ticks as
+-- the shortest hold has
+pub record EndsInHold {p : Tables} {cert : Cert} {m : ℕ} (g : Guarded p cert m) (n : ℕ)
+    (stretch : List Event) : Type 0 where
+  pub before : List Event
+  pub present : List Event
+  pub are : stretch ≡ before ++ present
+  pub fired : n ≤ count_of (is_firing g.info.sc) before
+  pub long : g.sc.period ≤ count_of is_tick present + cert.jitter
+
+-- n whole holds lie in a stretch: between n + 1 firings, or from n firings on to its end
+abbrev pub HaveHolds : {p : Tables} {cert : Cert} {m : ℕ} → Guarded p cert m → ℕ → List Event
+    → Type 0
+HaveHolds {p} {cert} {m} g n stretch =
+    (n ≤ count_of (is_firing g.info.sc) stretch - 1) ⊎ EndsInHold g n stretch
+
+-- after n whole holds the decision that comes next trusts the advanced node
 abbrev pub TrustsAfter : {p : Tables} {cert : Cert} {m : ℕ} → Guarded p cert m → ℕ → Type 0
 TrustsAfter {p} {cert} {m} g n =
     (start : List (List ℤ)) (C D : Configuration) (first stretch rest : List Event)
     (Ds : List Configuration) →
-    IsStretch g start C first stretch (Decide m ∷ rest) Ds
-    → n ≤ count_of (is_firing g.info.sc) stretch - 1 → At Ds (length first + length stretch) D
-    → mode_of D m ≡ Ac
+    IsStretch g start C first stretch (Decide m ∷ rest) Ds → HaveHolds g n stretch
+    → At Ds (length first + length stretch) D → mode_of D m ≡ Ac

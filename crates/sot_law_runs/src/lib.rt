@@ -4,6 +4,7 @@
 
 mod facts;
 mod laws;
+mod recovery_facts;
 mod recovery_laws;
 
 pub use facts::{
@@ -14,6 +15,7 @@ pub use laws::{
     certified_programs_open, firings_are_due_times, points_have_one_opening,
     something_always_happens, time_goes_on, tubes_hold_the_reach_at_each_tick,
 };
+pub use recovery_facts::{one_hold_is_needed, one_hold_is_waited_for, whole_holds_are_counted};
 pub use recovery_laws::{
     firings_are_holds, guarded_modules, holds_stay_safe, rank_zero_keeps, ranks_are_one,
     ranks_recover, runs_recover,

@@ -1,4 +1,4 @@
-use Rattle.sot_law_runs.proofs.Runs.{runs_recover}
+use Rattle.sot_law_runs.proofs.Trusts.{runs_recover}
 use Rattle.sot_law_runs.proofs.recovery_laws.runs_recover.Goals as goal
 
 pub returns : goal.returns
