@@ -1,5 +1,5 @@
 -- What the parts of a phrase mean.
-use Rattle.std.proofs.Common.{◌≡◌, ◌≢◌, ℕ, zero, suc, ◌-◌, ◌<◌, ◌==◌, ◌||◌, not, List, []}
+use Rattle.std.proofs.Common.{◌≡◌, ◌≢◌, ℕ, zero, suc, ◌+◌, ◌-◌, ◌<◌, ◌==◌, ◌||◌, not, List, []}
 use Rattle.std.proofs.Common.{◌∷◌, ◌++◌, Bool, true, false, length, Option, Some, None, inl, inr, ⊎_elim, ◌⊎◌}
 use Rattle.std.proofs.Common.{refl, sym, ap, ap₂, subst, ◌∙◌, arith, append_assoc}
 use Rattle.std.proofs.lemmas.Bool.{false≢true, cases_eq}
@@ -24,7 +24,7 @@ use Rattle.sot_formula.specs.Formulas.{Formula, Truth, Compared, Not, And, Or, O
 use Rattle.sot_formula.specs.Phrases.{Reference, a_mode, a_name, a_field, Literal, a_number, a_negative}
 use Rattle.sot_formula.specs.Phrases.{Phrase, a_truth, a_single, a_double, a_within, a_comparison, IsPhrase}
 use Rattle.sot_formula.specs.Meanings.{Names, mantissa, decimals, IsCompared, Means}
-use Rattle.sot_formula.specs.Parts.{IsPart, IsThere}
+use Rattle.sot_formula.specs.Parts.{IsPart, part_count, IsThere}
 use Rattle.sot_formula.specs.Reading.{Laid, place, put, compared, ticks_of}
 use Rattle.sot_formula.proofs.Finds.{plain_found, plain_finds, part_found, part_finds_field, part_finds_variable, module_found, module_finds}
 use Rattle.sot_formula.proofs.Laying.{found_of, or_less, by_of, lit_of, laid, some_sign, signs}
@@ -150,12 +150,18 @@ below_put : (s t u : Laid) (w : What) → Extends s t → (t ≡ u) ⊎ Extends 
 below_put s t u w a (inl same) = (let m = a.some in let n = length_last u.whats w in let e = ap (λ (x : Laid). length x.whats) same in omega (arith, m, n, e))
 below_put s t u w a (inr b) = (let m = a.some in let k = b.some in let n = length_last u.whats w in omega (arith, m, k, n))
 
+-- a comparison is one part
+one_compared : (o : Option FoundQuantity) (by : Comparison) (z : Lit) (s : Laid) → length (compared o by z s).whats ≡ suc (length s.whats)
+one_compared None by z s = length_last s.whats (whats.Truth false)
+one_compared (Some x) by z s = length_last s.whats (whats.Compared x.of by z.mantissa)
+
 module _ (p : Tables) (rules : MeetsTableRules p) where
   -- where nothing is unknown and no scale differs, the phrase means its last part
   pub record IsMeant (f : Phrase) (s : Laid) : Type 0 where
     pub formula : Formula
     pub means : Means p f formula
     pub part : IsPart (laid p f s).whats (place (laid p f s)) formula
+    pub count : length (laid p f s).whats ≡ length s.whats + part_count formula
     pub known : s.unknown ≡ false
     pub same : s.differs ≡ false
 
@@ -183,15 +189,18 @@ module _ (p : Tables) (rules : MeetsTableRules p) where
 
   pub meant : (f : Phrase) (s : Laid) → IsPhrase f → (laid p f s).unknown ≡ false → (laid p f s).differs ≡ false → IsMeant f s
   meant (a_truth value t) s is known same =
-      record { formula = Truth value; means = refl; part = last_put s (whats.Truth value); known = known; same = same }
+      let n = length_last s.whats (whats.Truth value) in
+      record { formula = Truth value; means = refl; part = last_put s (whats.Truth value); count = omega (arith, n); known = known; same = same }
   meant (a_single singles.Not w begin f end) s is known same =
       let g = meant f s is.2 known same in
       let t = laid p f s in
       let step = put_extends t (put (whats.Not (place t)) t) (whats.Not (place t)) refl in
+      let n = length_last t.whats (whats.Not (place t)) in
       record {
         formula = Not g.formula;
         means = (g.formula, g.means, refl);
         part = (place t, last_put t (whats.Not (place t)), below_put s t t (whats.Not (place t)) (extends p f s) (inl refl), stays t _ g.formula step g.part);
+        count = omega (arith, n, g.count);
         known = g.known;
         same = g.same;
       }
@@ -199,10 +208,12 @@ module _ (p : Tables) (rules : MeetsTableRules p) where
       let g = meant f s is.2 known same in
       let t = laid p f s in
       let step = put_extends t (put (whats.Once (place t)) t) (whats.Once (place t)) refl in
+      let n = length_last t.whats (whats.Once (place t)) in
       record {
         formula = Once g.formula;
         means = (g.formula, g.means, refl);
         part = (place t, last_put t (whats.Once (place t)), below_put s t t (whats.Once (place t)) (extends p f s) (inl refl), stays t _ g.formula step g.part);
+        count = omega (arith, n, g.count);
         known = g.known;
         same = g.same;
       }
@@ -213,6 +224,7 @@ module _ (p : Tables) (rules : MeetsTableRules p) where
       let a = meant f s is.2 b.known b.same in
       let w' = whats.And (place t) (place u) in
       let on = put_extends u (put w' u) w' refl in
+      let n = length_last u.whats w' in
       record {
         formula = And a.formula b.formula;
         means = (a.formula, b.formula, a.means, b.means, refl);
@@ -225,6 +237,7 @@ module _ (p : Tables) (rules : MeetsTableRules p) where
           stays t _ a.formula (then_extends t u _ (extends p g t) on) a.part,
           stays u _ b.formula on b.part,
         );
+        count = omega (arith, n, a.count, b.count);
         known = a.known;
         same = a.same;
       }
@@ -235,6 +248,7 @@ module _ (p : Tables) (rules : MeetsTableRules p) where
       let a = meant f s is.2 b.known b.same in
       let w' = whats.Or (place t) (place u) in
       let on = put_extends u (put w' u) w' refl in
+      let n = length_last u.whats w' in
       record {
         formula = Or a.formula b.formula;
         means = (a.formula, b.formula, a.means, b.means, refl);
@@ -247,6 +261,7 @@ module _ (p : Tables) (rules : MeetsTableRules p) where
           stays t _ a.formula (then_extends t u _ (extends p g t) on) a.part,
           stays u _ b.formula on b.part,
         );
+        count = omega (arith, n, a.count, b.count);
         known = a.known;
         same = a.same;
       }
@@ -257,6 +272,7 @@ module _ (p : Tables) (rules : MeetsTableRules p) where
       let a = meant f s is.2 b.known b.same in
       let w' = whats.Since (place t) (place u) in
       let on = put_extends u (put w' u) w' refl in
+      let n = length_last u.whats w' in
       record {
         formula = Since a.formula b.formula;
         means = (a.formula, b.formula, a.means, b.means, refl);
@@ -269,6 +285,7 @@ module _ (p : Tables) (rules : MeetsTableRules p) where
           stays t _ a.formula (then_extends t u _ (extends p g t) on) a.part,
           stays u _ b.formula on b.part,
         );
+        count = omega (arith, n, a.count, b.count);
         known = a.known;
         same = a.same;
       }
@@ -277,13 +294,17 @@ module _ (p : Tables) (rules : MeetsTableRules p) where
       let t = laid p f s in
       let w' = whats.Within (ticks_of (literal n)) (place t) in
       let step = put_extends t (put w' t) w' refl in
+      let len = length_last t.whats w' in
       record {
         formula = Within (mantissa_of n.text) g.formula;
         means = (g.formula, g.means, refl);
         part = (place t, last_put t w', below_put s t t w' (extends p f s) (inl refl), stays t _ g.formula step g.part);
+        count = omega (arith, len, g.count);
         known = g.known;
         same = g.same;
       }
   meant (a_comparison r by z) s is known same =
       let h = compared_meant r by z s (found_of p r) refl is known same in
-      record { formula = h.0; means = h.1; part = h.2; known = h.3; same = h.4 }
+      let n = one_compared (found_of p r) (by_of by) (lit_of z) s in
+      let one : part_count h.0 ≡ 1 = ap part_count h.1.4 in
+      record { formula = h.0; means = h.1; part = h.2; count = omega (arith, n, one); known = h.3; same = h.4 }

@@ -1,5 +1,5 @@
 -- What `read` answers.
-use Rattle.std.specs.Prelude.{ℕ, ◌-◌, List, length}
+use Rattle.std.specs.Prelude.{ℕ, ◌-◌, ◌≡◌, List, length}
 use Rattle.sot_lang.specs.Tables.{Tables}
 use Rattle.sot_lang.specs.TableRules.{MeetsTableRules}
 use Rattle.sot_formula.specs.declared.fail.MonitorFail.{MonitorFail}
@@ -8,16 +8,17 @@ use Rattle.sot_formula.specs.declared.what.What.{What}
 use Rattle.sot_formula.specs.Formulas.{Formula}
 use Rattle.sot_formula.specs.Phrases.{Phrase, IsFormulaText}
 use Rattle.sot_formula.specs.Meanings.{Means, HasUnknown, HasOtherScale}
-use Rattle.sot_formula.specs.Parts.{IsPart, ArePlaced, AreThere}
+use Rattle.sot_formula.specs.Parts.{IsPart, part_count, ArePlaced, AreThere}
 
--- the bytes are the text of a formula that has a meaning, which is the last of these parts, and
--- the program has all that the parts compare
+-- the bytes are the text of a formula that has a meaning, which is the last of these parts; no part
+-- is besides those of the formula, and the program has all that they compare
 pub record IsRead (p : Tables) (bytes : List ℕ) (ws : List What) : Type 0 where
   pub phrase : Phrase
   pub formula : Formula
   pub text : IsFormulaText bytes phrase
   pub means : Means p phrase formula
   pub whole : IsPart ws (length ws - 1) formula
+  pub count : length ws ≡ part_count formula
   pub placed : ArePlaced ws
   pub there : AreThere p ws
 

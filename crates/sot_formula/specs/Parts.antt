@@ -1,5 +1,5 @@
 -- A formula as the list of its parts, each behind its own parts.
-use Rattle.std.specs.Prelude.{ℕ, List, ◌<◌, ◌≤◌, length}
+use Rattle.std.specs.Prelude.{ℕ, List, ◌<◌, ◌≤◌, ◌+◌, length}
 use Rattle.sot_lists.specs.Places.{At}
 use Rattle.sot_lang.specs.declared.tables.PlantInfo.{PlantInfo}
 use Rattle.sot_lang.specs.Tables.{Tables}
@@ -22,6 +22,17 @@ IsPart ws i (Once f) = (k : ℕ) × At ws i (whats.Once k) × (k < i) × IsPart 
 IsPart ws i (Since f g) =
     (k n : ℕ) × At ws i (whats.Since k n) × (k < i) × (n < i) × IsPart ws k f × IsPart ws n g
 IsPart ws i (Within ticks f) = (k : ℕ) × At ws i (whats.Within ticks k) × (k < i) × IsPart ws k f
+
+-- how many parts a formula has, itself among them
+abbrev pub part_count : Formula → ℕ
+part_count (Truth value) = 1
+part_count (Compared of by number) = 1
+part_count (Not f) = 1 + part_count f
+part_count (And f g) = 1 + (part_count f + part_count g)
+part_count (Or f g) = 1 + (part_count f + part_count g)
+part_count (Once f) = 1 + part_count f
+part_count (Since f g) = 1 + (part_count f + part_count g)
+part_count (Within ticks f) = 1 + part_count f
 
 -- the places of a part's own parts are before it, and no `within` looks back further than a flight
 -- lasts
