@@ -10,5 +10,6 @@ pub mod Reached
 pub mod Whole
 pub mod Chosen
 pub mod Sides
+pub mod Rising
 pub mod Sets
 pub mod Levels

@@ -1,7 +1,7 @@
 -- Places of changed, cut and shortened lists; boxes around boxes.
 use Rattle.std.proofs.Common.{◌≡◌, ℕ, zero, suc, ◌+◌, ◌-◌, ◌<◌, ◌≤◌, ◌⊎◌, inl, inr, ⊎_elim, List, [], ◌∷◌, ◌++◌, ◌*◌, length, refl, sym, ap, subst}
 use Rattle.std.proofs.Common.{arith, take, drop}
-use Rattle.std.specs.Prelude.{ℤ, ◌≤ℤ◌, slice_set}
+use Rattle.std.specs.Prelude.{◌≤ℤ◌, slice_set}
 use Rattle.std.proofs.lemmas.Option.{same_Some, none-some, slice_get_within}
 use Rattle.std.proofs.lemmas.Int.{ints}
 use Rattle.sot_lists.specs.Places.{At}

@@ -1,5 +1,5 @@
 -- Boxes that meet, and boxes around boxes, side by side.
-use Rattle.std.specs.Prelude.{ℕ, ◌≤ℤ◌, ◌≡◌, List, length}
+use Rattle.std.specs.Prelude.{ℕ, suc, ◌≤◌, ◌≤ℤ◌, ◌≡◌, List, [], ◌∷◌, length}
 use Rattle.sot_lists.specs.Places.{At}
 use Rattle.sot_box.specs.Sides.{Side}
 
@@ -21,6 +21,11 @@ AreOfOneWidth boxes =
 abbrev pub IsAroundAll : List Side → List (List Side) → Type 0
 IsAroundAll hull boxes =
     (i : ℕ) (b : List Side) → At boxes i b → (length hull ≡ length b) × IsAround hull b
+
+-- numbers that rise, from n on: each is above the one before it
+abbrev pub RiseFrom : ℕ → List ℕ → Type 0
+RiseFrom n [] = Unit {0}
+RiseFrom n (x ∷ xs) = (n ≤ x) × RiseFrom (suc x) xs
 
 -- the box at place i meets a box
 abbrev pub MeetsAt : List (List Side) → List Side → ℕ → Type 0

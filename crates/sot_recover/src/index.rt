@@ -4,8 +4,8 @@ ghost use Rattle.std.specs.Prelude.{ℕ, List, ◌≡◌, ◌+◌, ◌*◌, ◌<
 ghost use Rattle.std.specs.Prelude.{IsTrue, IfOk, OnOk};
 ghost use Rattle.sot_lists.specs.Places.{At, Has};
 ghost use Rattle.sot_box.specs.Sides.{Side as Interval_};
-ghost use Rattle.sot_recover.specs.Meeting.{Meet, MeetsAt, IsAround, AreOfOneWidth};
-ghost use Rattle.sot_recover.specs.Blocks.{IsInBlock, IsBlocked};
+ghost use Rattle.sot_recover.specs.Meeting.{Meet, MeetsAt, RiseFrom, IsAround, AreOfOneWidth};
+ghost use Rattle.sot_recover.specs.Blocks.{IsInBlock, IsBlocked, RiseBelow};
 
 use crate::hull::hull_of;
 use sot_box::{BoxN, Interval};
@@ -66,9 +66,11 @@ impl BoxIndex {
         boxes[i]
     }
 
-    /// Replaces `found` by the places of the boxes that meet the box.
+    /// Replaces `found` by the places of the boxes that meet the box, each once and in order.
     pub fn put_meeting(&self, b: &BoxN, found: &mut Vec<usize>) -> Result<(), AllocError>
-        ensures { OnOk result ((i : ℕ) → Has found.new.items i ↔ MeetsAt self.now b.now i) }
+        ensures places { OnOk result ((i : ℕ) → Has found.new.items i
+            ↔ MeetsAt self.now b.now i) }
+        ensures once { OnOk result (RiseFrom 0 found.new.items) }
     {
         put_all(&self.boxes, &self.hulls, b, found)?;
         Ok(())
@@ -113,8 +115,9 @@ fn hulls_of(alloc: Global, boxes: &[BoxN]) -> Result<Vec<BoxN>, AllocError>
 // Puts a place behind those found, where its box meets the box.
 fn put_one(boxes: &[BoxN], i: usize, b: &BoxN, found: &mut Vec<usize>) -> Result<(), AllocError>
     requires { i < length boxes.now }
-    ensures { OnOk result ((k : ℕ) → Has found.new.items k
+    ensures places { OnOk result ((k : ℕ) → Has found.new.items k
         ↔ (Has found.old.items k ⊎ ((k ≡ i) × MeetsAt boxes.now b.now i))) }
+    ensures once { OnOk result (RiseBelow i found.old.items → RiseBelow (i + 1) found.new.items) }
 {
     if !meet(&boxes[i], b) {
         return Ok(());
@@ -133,8 +136,9 @@ fn put_block(
 ) -> Result<(), AllocError>
     requires order { from ≤ to }
     requires inside { to ≤ length boxes.now }
-    ensures { OnOk result ((k : ℕ) → Has found.new.items k
+    ensures places { OnOk result ((k : ℕ) → Has found.new.items k
         ↔ (Has found.old.items k ⊎ ((from ≤ k) × (k < to) × MeetsAt boxes.now b.now k))) }
+    ensures once { OnOk result (RiseBelow from found.old.items → RiseBelow to found.new.items) }
 {
     for i in from..to {
         put_one(boxes, i, b, found)?;
@@ -154,8 +158,10 @@ fn put_block_of(
     requires inside { from < length boxes.now }
     requires around { (i : ℕ) (c : List Interval_) → At boxes.now i c → IsInBlock from i
         → (length hull.now ≡ length c) × IsAround hull.now c }
-    ensures { OnOk result ((i : ℕ) → Has found.new.items i
+    ensures places { OnOk result ((i : ℕ) → Has found.new.items i
         ↔ (Has found.old.items i ⊎ (IsInBlock from i × MeetsAt boxes.now b.now i))) }
+    ensures once { OnOk result (RiseBelow from found.old.items
+        → RiseBelow (from + 64) found.new.items) }
 {
     if !meet(hull, b) {
         return Ok(());
@@ -174,7 +180,8 @@ fn put_all(
     found: &mut Vec<usize>,
 ) -> Result<(), AllocError>
     requires { IsBlocked boxes.now hulls.now }
-    ensures { OnOk result ((i : ℕ) → Has found.new.items i ↔ MeetsAt boxes.now b.now i) }
+    ensures places { OnOk result ((i : ℕ) → Has found.new.items i ↔ MeetsAt boxes.now b.now i) }
+    ensures once { OnOk result (RiseFrom 0 found.new.items) }
 {
     found.clear();
     for k in 0..hulls.len() {

@@ -1,4 +1,4 @@
-use Rattle.std.proofs.Common.{◌≡◌, ◌+◌, ⊎_elim, sym, subst, [], ◌∷◌, ◌++◌}
+use Rattle.std.proofs.Common.{◌≡◌, ⊎_elim, sym, subst, [], ◌∷◌, ◌++◌}
 use Rattle.sot_lists.specs.Places.{Has}
 use Rattle.sot_recover.proofs.Sets.{has_left, has_last, one_more}
 use Rattle.sot_recover.proofs.collecting.all_places.Goals as goal

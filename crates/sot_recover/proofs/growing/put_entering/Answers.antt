@@ -1,4 +1,4 @@
-use Rattle.std.proofs.Common.{◌≡◌, ◌<◌, ◌⊎◌, inl, inr, ⊎_elim, sym, subst, arith}
+use Rattle.std.proofs.Common.{◌≡◌, ◌<◌, inl, inr, ⊎_elim, sym, subst, arith}
 use Rattle.std.specs.Prelude.{slice_index_or}
 use Rattle.sot_lists.specs.Places.{Has}
 use Rattle.sot_recover.specs.Entered.{MayEnter}

@@ -15,7 +15,7 @@ returns-clause-near c =
           λ s i x w. (points s).1 (inr (
             i,
             subst (λ xs. Has xs i) (sym c.deref.ensures.value)
-                ((c.in_ok-put_meeting.ensures i).1 (x.0, x.2, shared_meet x.0 c.args.b.now s x.3 w)),
+                ((c.in_ok-put_meeting.ensures.places i).1 (x.0, x.2, shared_meet x.0 c.args.b.now s x.3 w)),
             x,
           ));
     })

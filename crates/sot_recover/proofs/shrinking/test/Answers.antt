@@ -1,4 +1,4 @@
-use Rattle.std.proofs.Common.{sym, ◌∙◌, subst, true, false, rules}
+use Rattle.std.proofs.Common.{sym, ◌∙◌, subst, false, rules}
 use Rattle.std.specs.Prelude.{slice_set}
 use Rattle.std.proofs.lemmas.Bool.{false≢true}
 use Rattle.sot_recover.specs.Sets.{IsSet, with_places}

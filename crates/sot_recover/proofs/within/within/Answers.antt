@@ -5,7 +5,8 @@ use Rattle.sot_law_runs.specs.Holds.{Guarded, IsRecovered}
 use Rattle.sot_law_runs.specs.Ranks.{IsRank, HasNoRank}
 use Rattle.sot_law_runs.specs.RunHolds.{TrustsAfter}
 use Rattle.sot_law_runs.proofs.Rows.{ranks_recover}
-use Rattle.sot_law_runs.proofs.Runs.{runs_hold, runs_recover}
+use Rattle.sot_law_runs.proofs.Runs.{runs_hold}
+use Rattle.sot_law_runs.proofs.Trusts.{runs_recover}
 use Rattle.sot_recover.specs.Chosen.{chosen, IsLeastCover}
 use Rattle.sot_recover.proofs.CellTubes.{account}
 use Rattle.sot_recover.proofs.Whole.{if_ok_map, if_never_map, few_ranks, ranks_count, widths_are, to_rank, to_none}
