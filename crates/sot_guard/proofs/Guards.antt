@@ -25,7 +25,7 @@ use Rattle.sot_tube.specs.Certified.{IsWellCertified}
 use Rattle.sot_tube.specs.WellFormed.{IsWellFormed}
 use Rattle.sot_tube.proofs.Certificate.{certified_well}
 use Rattle.sot_world.specs.declared.mode.Mode.TheVariants.{Sc}
-use Rattle.sot_world.specs.Configurations.{Configuration, IsOpening, IsSafer, mode_of, locals_of, point_of}
+use Rattle.sot_world.specs.Configurations.{Configuration, IsOpening, mode_of, locals_of, point_of}
 use Rattle.sot_world.specs.Steps.{Inputs, Fires, published, is_enabled}
 use Rattle.sot_world.specs.Calendar.{NothingLeft}
 use Rattle.sot_world.specs.Changes.{IsThere, AreThere, ArePoints}
@@ -34,10 +34,11 @@ use Rattle.sot_world.proofs.Publishes.{publish_within}
 use Rattle.sot_world.proofs.Writes.{write_within}
 use Rattle.sot_law_observed_runs.specs.Tubes.{KeepsTubes}
 use Rattle.sot_law_observed_runs.proofs.Ticking.{next_boxes}
-use Rattle.sot_law_observed_runs.proofs.Steps.{opening_keeps}
-use Rattle.sot_guard.specs.Guarding.{IsGuarding}
+use Rattle.sot_guard.specs.Guarding.{IsGuarding, last_time}
 use Rattle.sot_guard.specs.Outside.{HaveBoxes}
 use Rattle.sot_guard.specs.Running.{MayRunOn}
+use Rattle.sot_guard.specs.Resuming.{AreHeldSafe}
+use Rattle.sot_guard.proofs.Holding.{held_starts_keep_tubes}
 
 published_within : (p : Tables) (b : Bool) (ws : List ℕ) (draft : List (Option ℤ)) (xs : List ℤ) → IsWithin (scalar_ranges p) xs
     → IsWithin (scalar_ranges p) (published b p ws draft xs)
@@ -107,7 +108,7 @@ module _ (a : Admitted) (t : Bool) (C : Configuration) (g : IsGuarding a t C) wh
       record {
         rules = g.rules;
         certified = g.certified;
-        time = subst (λ x. x ≤ 100000) (ap (λ x. x.time) (sym s.rest)) g.time;
+        time = subst (λ x. x ≤ last_time) (ap (λ x. x.time) (sym s.rest)) g.time;
         scalars = scalars;
         locals = λ n node at. subst (λ l. IsWithin (local_ranges node) (slice_index_or l n [])) (ap (λ x. x.locals) (sym s.rest)) (g.locals n node at);
         sizes = record {
@@ -133,7 +134,7 @@ module _ (a : Admitted) (t : Bool) (C : Configuration) (g : IsGuarding a t C) wh
       record {
         rules = g.rules;
         certified = g.certified;
-        time = subst (λ x. x ≤ 100000) (sym f.time) g.time;
+        time = subst (λ x. x ≤ last_time) (sym f.time) g.time;
         scalars = scalars;
         locals = locals_in;
         sizes = record {
@@ -162,11 +163,11 @@ module _ (a : Admitted) (t : Bool) (C : Configuration) (g : IsGuarding a t C) wh
           (λ (ne : i ≡ n → ⊥). subst (IsWithin (local_ranges other)) (sym (get_or-set_other C.locals n i locals [] ne)) (g.locals i other at_i))
           (cases_eq i n))
 
--- what is kept at a safer opening
+-- what is kept at an opening that is held safe
 pub opened_guards : (a : Admitted) (start : List (List ℤ)) (C : Configuration) → MeetsTableRules a.program → IsWellCertified a.program a.cert.jitter a.cert
-    → IsOpening a.program start C → IsSafer a.program C → IsGuarding a true C
-opened_guards a start C rules certified o safer =
-    let h = opening_keeps a.program a.cert rules certified start C o safer in
+    → IsOpening a.program start C → AreHeldSafe a.program a.cert.jitter C → IsGuarding a true C
+opened_guards a start C rules certified o held =
+    let h = held_starts_keep_tubes a.program a.cert start C rules certified o held in
     record {
       rules = rules;
       certified = certified;

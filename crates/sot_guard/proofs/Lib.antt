@@ -1,5 +1,9 @@
 pub mod Boxes
+pub mod Untils
+pub mod Holding
+pub mod HeldTests
 pub mod Guards
+pub mod Regaining
 pub mod Moves
 pub mod Runs
 pub mod Along

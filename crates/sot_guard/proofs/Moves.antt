@@ -24,7 +24,7 @@ use Rattle.sot_law_observed_runs.specs.Tubes.{KeepsTubes}
 use Rattle.sot_law_observed_runs.proofs.Steps.{step_keeps}
 use Rattle.sot_law_observed_runs.proofs.Ticking.{tick_keeps}
 use Rattle.sot_world.proofs.Stepping.{decides_so}
-use Rattle.sot_guard.specs.Guarding.{Guarding, IsGuarding}
+use Rattle.sot_guard.specs.Guarding.{Guarding, IsGuarding, last_time}
 use Rattle.sot_guard.proofs.Guards.{well}
 use Rattle.sot_guard.specs.declared.outside.Outside.{Outside}
 use Rattle.sot_guard.specs.Outside.{AreInBoxes, IsFirstOutside}
@@ -37,7 +37,7 @@ pub decide_guards : (a : Admitted) (t : Bool) (C D : Configuration) (m : ℕ) �
 decide_guards a true C D m g s = record {
   rules = g.rules;
   certified = g.certified;
-  time = subst (λ x. x ≤ 100000) (ap (λ x. x.time) (sym s.rest)) g.time;
+  time = subst (λ x. x ≤ last_time) (ap (λ x. x.time) (sym s.rest)) g.time;
   scalars = subst (IsWithin (scalar_ranges a.program)) (ap (λ x. x.scalars) (sym s.rest)) g.scalars;
   locals = λ n node at. subst (λ l. IsWithin (local_ranges node) (slice_index_or l n [])) (ap (λ x. x.locals) (sym s.rest)) (g.locals n node at);
   sizes = record {
@@ -55,7 +55,7 @@ decide_guards a true C D m g s = record {
 decide_guards a false C D m g s = record {
   rules = g.rules;
   certified = g.certified;
-  time = subst (λ x. x ≤ 100000) (ap (λ x. x.time) (sym s.rest)) g.time;
+  time = subst (λ x. x ≤ last_time) (ap (λ x. x.time) (sym s.rest)) g.time;
   scalars = subst (IsWithin (scalar_ranges a.program)) (ap (λ x. x.scalars) (sym s.rest)) g.scalars;
   locals = λ n node at. subst (λ l. IsWithin (local_ranges node) (slice_index_or l n [])) (ap (λ x. x.locals) (sym s.rest)) (g.locals n node at);
   sizes = record {
@@ -82,7 +82,7 @@ module _ (a : Admitted) (C : Configuration) (time : ℕ) (left left_dm : List Bo
   after modes = record C { time = time; left = left; left_dm = left_dm; modes = modes; points = points }
 
   -- what is kept after an observation, whatever the modes
-  moved_guards : (t s : Bool) (modes : List Mode) → IsGuarding a t C → C.time < 100000 → length modes ≡ length a.program.modules
+  moved_guards : (t s : Bool) (modes : List Mode) → IsGuarding a t C → C.time < last_time → length modes ≡ length a.program.modules
       → (s ≡ true → KeepsTubes a.program a.cert.jitter (after modes)) → (s ≡ false → (m : ℕ) → slice_index_or modes m Sc ≡ Sc)
       → IsGuarding a s (after modes)
   moved_guards t s modes g below many tubes safe = record {
@@ -140,7 +140,7 @@ module _ (a : Admitted) (C : Configuration) (time : ℕ) (left left_dm : List Bo
     pub kept : IsGuarding a s (record C { time = time; left = left; left_dm = left_dm; modes = modes; points = points })
     pub told : MatchOption o (GoesOn (old t) (new s modes)) (λ x. Withdraws (old t) (new s modes) next x)
 
-  pub observed : (t s inside : Bool) (modes : List Mode) (o : Option Outside) → IsGuarding a t C → C.time < 100000 → NothingLeft a.program C
+  pub observed : (t s inside : Bool) (modes : List Mode) (o : Option Outside) → IsGuarding a t C → C.time < last_time → NothingLeft a.program C
       → is_some o ≡ not inside → (inside ≡ true → s ≡ t) → (inside ≡ false → s ≡ false) → (inside ≡ true → modes ≡ C.modes)
       → (inside ≡ false → (m : ℕ) → slice_index_or modes m Sc ≡ Sc) → length modes ≡ length C.modes
       → MatchOption o (t ≡ true → AreInBoxes a.program C.scalars C.points next (length a.program.plants))

@@ -31,13 +31,13 @@ pub record StaysInMode (p : Tables) (m : ℕ) (C D : Configuration) : Type 0 whe
   pub left_dm : D.left_dm ≡ slice_set C.left_dm m false
   pub rest : D ≡ record C { left_dm = D.left_dm }
 
--- a decision: one of the semantics while the models are trusted, and none afterwards
+-- a decision: one of the semantics while the models are trusted, and none while they are not
 abbrev pub DecidesWhere : Bool → Tables → ℕ → ℕ → Configuration → Configuration → Type 0
 DecidesWhere true p jitter m C D = Decides p jitter m C D
 DecidesWhere false p jitter m C D = StaysInMode p m C D
 
 -- a coded node fires with what its body gives, told in eight slots; and if the body traps, which it
--- can only where the models are no longer trusted, with nothing drafted and its locals as they were
+-- can only where the models are not trusted, with nothing drafted and its locals as they were
 pub record FiresCode (p : Tables) (n : ℕ) (C D : Configuration) (firing : Firing) : Type 0 where
   pub node : NodeInfo
   pub is : At p.nodes n node

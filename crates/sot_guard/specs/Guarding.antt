@@ -12,19 +12,22 @@ use Rattle.sot_world.specs.Configurations.{Configuration, IsSized, mode_of, loca
 use Rattle.sot_world.specs.Changes.{ArePoints}
 use Rattle.sot_law_observed_runs.specs.Tubes.{KeepsTubes}
 
--- an accepted program, whether its models are trusted, since no plant was observed outside its box,
--- and the configuration that the mission is in
+-- a guard goes on until this time
+abbrev pub last_time : ℕ
+last_time = 1000000000000
+
+-- an accepted program, whether its models are trusted, and the configuration that the mission is in
 pub record Guarding : Type 0 where
   pub accepted : Admitted
   pub trusted : Bool
   pub at : Configuration
 
--- what the type keeps: numbers in their ranges; while the models are trusted, tubes; and afterwards
--- every module is in mode Sc
+-- what the type keeps: numbers in their ranges; while the models are trusted, tubes; and while they
+-- are not, every module is in mode Sc
 pub record IsGuarding (a : Admitted) (trusted : Bool) (C : Configuration) : Type 0 where
   pub rules : MeetsTableRules a.program
   pub certified : IsWellCertified a.program a.cert.jitter a.cert
-  pub time : C.time ≤ 100000
+  pub time : C.time ≤ last_time
   pub scalars : IsWithin (scalar_ranges a.program) C.scalars
   pub locals : (n : ℕ) (node : NodeInfo) → At a.program.nodes n node
       → IsWithin (local_ranges node) (locals_of C n)

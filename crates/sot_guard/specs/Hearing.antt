@@ -12,8 +12,9 @@ use Rattle.sot_world.specs.Changes.{ArePoints}
 use Rattle.sot_world.specs.Calendar.{NothingLeft}
 use Rattle.sot_guard.specs.declared.outside.Outside.{Outside}
 use Rattle.sot_guard.specs.declared.told.Told.{Told}
-use Rattle.sot_guard.specs.Guarding.{Guarding}
+use Rattle.sot_guard.specs.Guarding.{Guarding, last_time}
 use Rattle.sot_guard.specs.Changes.{MovesTo, GoesOn, Withdraws, Distrusts, AsksSafeNodes}
+use Rattle.sot_guard.specs.Resuming.{RegainsTrust, StaysUnsafe}
 use Rattle.sot_guard.specs.Instants.{AreTold, AreInOrder}
 use Rattle.sot_guard.specs.declared.turn.SessionEvent.{SessionEvent}
 use Rattle.sot_guard.specs.declared.turn.SessionEvent.TheVariants.{Instant, Tick}
@@ -21,13 +22,14 @@ use Rattle.sot_guard.specs.declared.misheard.Misheard.{Misheard}
 use Rattle.sot_guard.specs.declared.misheard.Misheard.TheVariants.{OutOfTurn, TooFar}
 use Rattle.sot_guard.specs.declared.misheard.Misheard.TheVariants.{NotALine, NotDue}
 use Rattle.sot_guard.specs.declared.misheard.Misheard.TheVariants.{AlreadyDrafted}
-use Rattle.sot_guard.specs.declared.misheard.Misheard.TheVariants.{OutsideType}
+use Rattle.sot_guard.specs.declared.misheard.Misheard.TheVariants.{OutsideType, NotSeen}
 
--- a guard, what it hears next, for each node what it has drafted in this instant, and whether it
--- has, and what was told of the last instant
+-- a guard, what it hears next, whether all plants were observed at its time, for each node what it
+-- has drafted in this instant, and whether it has, and what was told of the last instant
 pub record Hearing : Type 0 where
   pub guarding : Guarding
   pub turn : SessionEvent
+  pub seen : Bool
   pub drafts : List (List (Option ℤ))
   pub drafted : List Bool
   pub told : List Told
@@ -98,6 +100,7 @@ pub record GoesThrough (h k : Hearing) : Type 0 where
   pub points : k.guarding.at.points ≡ h.guarding.at.points
   pub accepted : k.guarding.accepted ≡ h.guarding.accepted
   pub trusted : k.guarding.trusted ≡ h.guarding.trusted
+  pub seen : k.seen ≡ h.seen
   pub no_drafts : NoDrafts k
 
 -- after a tick the plants are at these points, and the first one outside its model is told; where
@@ -105,7 +108,7 @@ pub record GoesThrough (h k : Hearing) : Type 0 where
 pub record TakesTick (h : Hearing) (points : List (List ℤ)) (outside : Option Outside) (k : Hearing)
     : Type 0 where
   pub turn : h.turn ≡ Tick
-  pub time : h.guarding.at.time < 100000
+  pub time : h.guarding.at.time < last_time
   pub points_are : ArePoints (program_of h) points
   pub moved : Guarding
   pub moves : MovesTo (program_of h) points h.guarding.at moved.at
@@ -113,7 +116,7 @@ pub record TakesTick (h : Hearing) (points : List (List ℤ)) (outside : Option 
       (λ o. Withdraws h.guarding moved points o)
   pub asked : MatchOption outside (k.guarding ≡ moved) (λ o. AsksSafeNodes moved k.guarding)
   pub accepted : k.guarding.accepted ≡ h.guarding.accepted
-  pub rest : k ≡ record h { guarding = k.guarding; turn = Instant }
+  pub rest : k ≡ record h { guarding = k.guarding; turn = Instant; seen = true }
 
 -- a guard trusts its models no more, and asks the safe nodes at once
 pub record FallsBack (old new : Guarding) : Type 0 where
@@ -130,12 +133,26 @@ pub record IsWithdrawn (h k : Hearing) : Type 0 where
 -- models are trusted no more
 pub record PassesUnseen (h k : Hearing) : Type 0 where
   pub turn : h.turn ≡ Tick
-  pub time : h.guarding.at.time < 100000
+  pub time : h.guarding.at.time < last_time
   pub moved : Guarding
   pub moves : MovesTo (program_of h) h.guarding.at.points h.guarding.at moved.at
   pub falls : FallsBack moved k.guarding
   pub accepted : k.guarding.accepted ≡ h.guarding.accepted
-  pub rest : k ≡ record h { guarding = k.guarding; turn = Instant }
+  pub rest : k ≡ record h { guarding = k.guarding; turn = Instant; seen = false }
+
+-- in an instant in which all plants were observed, the models are trusted again
+pub record Resumes (h k : Hearing) : Type 0 where
+  pub turn : h.turn ≡ Instant
+  pub seen : h.seen ≡ true
+  pub regains : RegainsTrust h.guarding k.guarding
+  pub rest : k ≡ record h { guarding = k.guarding }
+
+-- .. or module m keeps them from being
+pub record MayNotResume (h : Hearing) (m : ℕ) : Type 0 where
+  pub turn : h.turn ≡ Instant
+  pub trusted : h.guarding.trusted ≡ false
+  pub seen : h.seen ≡ true
+  pub unsafe : StaysUnsafe h.guarding m
 
 -- why an input is not taken
 abbrev pub RefusesInput : Hearing → ℕ → List ℤ → Misheard → Type 0
@@ -148,6 +165,7 @@ RefusesInput h topic value AlreadyDrafted = ⊥
 RefusesInput h topic value OutsideType =
     (h.turn ≡ Instant) × IsInputOf (program_of h) topic value
     × (IsTypedInput (program_of h) topic value → ⊥)
+RefusesInput h topic value NotSeen = ⊥
 
 -- why a draft is not
 abbrev pub RefusesDraft : Hearing → ℕ → Misheard → Type 0
@@ -160,6 +178,7 @@ RefusesDraft h n AlreadyDrafted =
     (h.turn ≡ Instant) × IsExternal (program_of h) n × (is_left h.guarding.at n ≡ true)
     × (has_drafted h n ≡ true)
 RefusesDraft h n OutsideType = ⊥
+RefusesDraft h n NotSeen = ⊥
 
 -- why an instant is not gone through
 abbrev pub RefusesGo : Hearing → Misheard → Type 0
@@ -169,13 +188,26 @@ RefusesGo h NotALine = ⊥
 RefusesGo h NotDue = ⊥
 RefusesGo h AlreadyDrafted = ⊥
 RefusesGo h OutsideType = ⊥
+RefusesGo h NotSeen = ⊥
 
 -- why the points after a tick are not taken
 abbrev pub RefusesTick : Hearing → List (List ℤ) → Misheard → Type 0
 RefusesTick h points OutOfTurn = h.turn ≡ Instant
-RefusesTick h points TooFar = (h.turn ≡ Tick) × (100000 ≤ h.guarding.at.time)
+RefusesTick h points TooFar = (h.turn ≡ Tick) × (last_time ≤ h.guarding.at.time)
 RefusesTick h points NotALine =
-    (h.turn ≡ Tick) × (h.guarding.at.time < 100000) × (ArePoints (program_of h) points → ⊥)
+    (h.turn ≡ Tick) × (h.guarding.at.time < last_time) × (ArePoints (program_of h) points → ⊥)
 RefusesTick h points NotDue = ⊥
 RefusesTick h points AlreadyDrafted = ⊥
 RefusesTick h points OutsideType = ⊥
+RefusesTick h points NotSeen = ⊥
+
+-- why the models are not tried to be trusted again
+abbrev pub RefusesResume : Hearing → Misheard → Type 0
+RefusesResume h OutOfTurn = h.turn ≡ Tick
+RefusesResume h TooFar = ⊥
+RefusesResume h NotALine = ⊥
+RefusesResume h NotDue = (h.turn ≡ Instant) × (h.guarding.trusted ≡ true)
+RefusesResume h AlreadyDrafted = ⊥
+RefusesResume h OutsideType = ⊥
+RefusesResume h NotSeen =
+    (h.turn ≡ Instant) × (h.guarding.trusted ≡ false) × (h.seen ≡ false)

@@ -2,6 +2,7 @@
 pub mod Outside
 pub mod Guarding
 pub mod Changes
+pub mod Resuming
 pub mod Instants
 pub mod Examples
 pub mod Hearing
@@ -9,5 +10,6 @@ pub mod Conversations
 -- between the crate's own functions
 pub mod GuardView
 pub mod Running
+pub mod HeldParts
 pub mod InstantParts
 pub mod SessionView

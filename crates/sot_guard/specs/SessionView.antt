@@ -8,6 +8,7 @@ abbrev pub hearing : Inside → Hearing
 hearing s = record {
   guarding = s.guard;
   turn = s.turn;
+  seen = s.seen;
   drafts = s.drafts.items;
   drafted = s.drafted.items;
   told = s.told.items;

@@ -2,32 +2,36 @@
 
 ghost use Rattle.std.specs.Prelude.{◌≡◌, ◌<◌, ◌≤◌, true, length, IfOk, IfErr, IsErrOf};
 ghost use Rattle.sot_world.specs.Configurations.{is_left, is_left_dm, mode_of, number_of};
-ghost use Rattle.sot_world.specs.Configurations.{point_of, IsOpening, IsSafer};
-ghost use Rattle.sot_world.specs.Opens.{AreStarts, StartInside, IsFirstOutside, IfNotSafer};
-ghost use Rattle.sot_guard.specs.Guarding.{IsGuarding};
+ghost use Rattle.sot_world.specs.Configurations.{point_of, IsOpening};
+ghost use Rattle.sot_world.specs.Opens.{AreStarts};
+ghost use Rattle.sot_guard.specs.Guarding.{IsGuarding, last_time};
+ghost use Rattle.sot_guard.specs.HeldParts.{AreAnswered};
+ghost use Rattle.sot_guard.specs.Resuming.{AreHeldSafe, AtOpening, IsStartUnsafe, IfNotHeld};
 
+use crate::begin_fail::BeginFail;
+use crate::held::first_unheld_start;
 use crate::put::put_points;
 use sot_box::Point;
 use sot_code::Locals;
 use sot_lang::Typed;
 use sot_tube::Accepted;
-use sot_world::{
-    Mode, OpenFail, all_locals, decisions_left, first_outside, initial_scalars, nodes_left,
-    safe_modes,
-};
+use sot_world::{Mode, all_locals, decisions_left, initial_scalars, nodes_left, safe_modes};
 use std::alloc::{AllocError, Global};
 use std::marker::Model;
 
 mod step;
 
+/// A guard goes on until this time, in ticks.
+pub const LAST_TIME: u64 = 1_000_000_000_000;
+
 /// An accepted mission that is decided and fired beside plants that are observed. Its type keeps
-/// that while each plant was observed where its model allows it to be, every module's plant is in
-/// its safe region; and that every module is in mode Sc from the first other observation on.
+/// that every module's plant is in its safe region while the models are trusted, and that every
+/// module is in mode Sc while they are not.
 #[derive(Drop)]
 pub struct Guard<'a> {
     accepted: &'a Accepted<'a>,
     trusted: bool,
-    time: u32,
+    time: u64,
     left: Vec<bool>,
     left_dm: Vec<bool>,
     modes: Vec<Mode>,
@@ -58,30 +62,32 @@ impl<'a> Guard<'a> {
     /// its state variables: time 0, all that is due left, every module in mode Sc. It takes all
     /// memory that the guard will ever need.
     ///
-    /// `NotSafer` names the first module whose plant starts outside the module's safer region;
-    /// `Memory` says that there is none, and comes only where every plant starts inside.
+    /// `NotHeldSafe` names the first module whose plant the first commands do not hold safe until
+    /// the module's safe node fires; `Memory` says that there is none, and comes only where they
+    /// hold every module's.
     pub fn begin(
         alloc: Global,
         acc: &'a Accepted<'a>,
         start: &[Point],
-    ) -> Result<Guard<'a>, OpenFail>
+    ) -> Result<Guard<'a>, BeginFail>
         requires { AreStarts acc.now.program start.now }
         ensures opening { IfOk result (λ g. IsOpening acc.now.program start.now g.at) }
-        ensures safer { IfOk result (λ g. IsSafer acc.now.program g.at) }
+        ensures held { IfOk result (λ g.
+            AreHeldSafe acc.now.program acc.now.cert.jitter g.at) }
         ensures trusted { IfOk result (λ g. g.trusted ≡ true) }
         ensures accepted { IfOk result (λ g. g.accepted ≡ acc.now) }
-        ensures not_safer { IfErr result (λ f.
-            IfNotSafer f (λ m. IsFirstOutside acc.now.program start.now m)) }
-        ensures memory { IsErrOf result OpenFail.Memory
-            → StartInside acc.now.program start.now (length acc.now.program.modules) }
+        ensures not_held { IfErr result (λ f.
+            IfNotHeld f (λ m. IsStartUnsafe acc.now.program acc.now.cert.jitter start.now m)) }
+        ensures memory { IsErrOf result BeginFail.Memory → AtOpening acc.now.program start.now
+            (λ C. AreHeldSafe acc.now.program acc.now.cert.jitter C) }
     {
         let p = acc.typed();
-        if let Some(module) = first_outside(p, start) {
-            return Err(OpenFail::NotSafer { module });
+        if let Some(module) = first_unheld_start(p, acc.cert().jitter, start) {
+            return Err(BeginFail::NotHeldSafe { module });
         }
         match Guard::at_start(alloc, acc, start) {
             Ok(guard) => Ok(guard),
-            Err(_) => Err(OpenFail::Memory),
+            Err(_) => Err(BeginFail::Memory),
         }
     }
 
@@ -91,9 +97,10 @@ impl<'a> Guard<'a> {
         start: &[Point],
     ) -> Result<Guard<'a>, AllocError>
         requires starts { AreStarts acc.now.program start.now }
-        requires inside { StartInside acc.now.program start.now (length acc.now.program.modules) }
+        requires held { AreAnswered acc.now.program acc.now.cert.jitter start.now }
         ensures opening { IfOk result (λ g. IsOpening acc.now.program start.now g.at) }
-        ensures safer { IfOk result (λ g. IsSafer acc.now.program g.at) }
+        ensures held { IfOk result (λ g.
+            AreHeldSafe acc.now.program acc.now.cert.jitter g.at) }
         ensures trusted { IfOk result (λ g. g.trusted ≡ true) }
         ensures accepted { IfOk result (λ g. g.accepted ≡ acc.now) }
     {
@@ -132,17 +139,17 @@ impl<'a> Guard<'a> {
         self.accepted.typed()
     }
 
-    /// Whether no plant was observed outside its model so far.
+    /// Whether the models are trusted.
     pub fn trusted(&self) -> bool
         ensures { result ≡ self.now.trusted }
     {
         self.trusted
     }
 
-    /// The count of ticks so far, at most 100,000.
-    pub fn time(&self) -> u32
+    /// The count of ticks so far, at most 10^12.
+    pub fn time(&self) -> u64
         ensures value { result ≡ self.now.at.time }
-        ensures horizon { result ≤ 100000 }
+        ensures horizon { result ≤ last_time }
     {
         self.time
     }

@@ -4,6 +4,7 @@
 //! [`Session`] is a guard with what was said to it in this instant, and in which turn.
 #![tactic(auto)]
 
+mod begin_fail;
 mod blank;
 mod decide;
 mod due;
@@ -12,6 +13,7 @@ mod facts;
 mod fire;
 mod guard;
 mod hear;
+mod held;
 mod instant;
 mod laws;
 mod misheard;
@@ -21,10 +23,14 @@ mod session;
 mod told;
 mod turn;
 
+pub use begin_fail::BeginFail;
 pub use facts::line_is_observed;
-pub use guard::Guard;
+pub use guard::{Guard, LAST_TIME};
 pub use instant::go;
-pub use laws::{trusted_sessions_are_observed, trusted_sessions_are_safe};
+pub use laws::{
+    held_starts_keep_tubes, safer_starts_are_held_safe, trust_comes_back_by_a_resume,
+    trusted_sessions_are_observed, trusted_sessions_are_safe,
+};
 pub use misheard::Misheard;
 pub use outside::{Outside, first_outside};
 pub use session::Session;

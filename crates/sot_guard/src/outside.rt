@@ -39,8 +39,8 @@ fn put_point(s: &Point, sides: &mut Ranges)
     }
 }
 
-// The numbers of a plant's inputs, behind the others.
-fn put_commands(inputs: &[u32], scalars: &[i64], sides: &mut Ranges)
+/// The numbers of a plant's inputs, behind the others.
+pub(crate) fn put_commands(inputs: &[u32], scalars: &[i64], sides: &mut Ranges)
     requires there { (i k : ℕ) → At inputs.now i k → k < length scalars.now }
     requires room { length sides.old + length inputs.now ≤ 80 }
     ensures { sides.new ≡ sides.old

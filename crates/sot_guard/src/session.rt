@@ -1,16 +1,21 @@
 //! A session, instant by instant.
 
 ghost use Rattle.std.specs.Prelude.{◌≡◌, ◌<◌, ℕ, [], true, length, IfOk, IfErr, MatchResult};
-ghost use Rattle.sot_world.specs.Configurations.{IsOpening, IsSafer};
-ghost use Rattle.sot_world.specs.Opens.{AreStarts, IsFirstOutside, IfNotSafer};
+ghost use Rattle.std.specs.Prelude.{MatchOption, IsErrOf};
+ghost use Rattle.sot_world.specs.Configurations.{IsOpening};
+ghost use Rattle.sot_world.specs.Opens.{AreStarts};
+ghost use Rattle.sot_guard.specs.Guarding.{last_time};
 ghost use Rattle.sot_guard.specs.Hearing.{TakesInput, TakesDraft, GoesThrough, TakesTick};
 ghost use Rattle.sot_guard.specs.Hearing.{RefusesInput, RefusesDraft, RefusesGo};
 ghost use Rattle.sot_guard.specs.Hearing.{RefusesTick, NoDrafts, IsHearing, IsWithdrawn};
-ghost use Rattle.sot_guard.specs.Hearing.{PassesUnseen, program_of};
+ghost use Rattle.sot_guard.specs.Hearing.{PassesUnseen, Resumes, MayNotResume, RefusesResume};
+ghost use Rattle.sot_guard.specs.Hearing.{program_of};
+ghost use Rattle.sot_guard.specs.Resuming.{AreHeldSafe, AtOpening, IsStartUnsafe, IfNotHeld};
 ghost use Rattle.sot_guard.specs.declared.turn.SessionEvent.TheVariants.{Instant, Tick};
 
+use crate::begin_fail::BeginFail;
 use crate::blank::{blank_drafts, clear_drafts, clear_flags, no_flags};
-use crate::guard::Guard;
+use crate::guard::{Guard, LAST_TIME};
 use crate::hear::{are_points, is_external, is_input, is_typed};
 use crate::instant::go;
 use crate::misheard::Misheard;
@@ -20,7 +25,6 @@ use crate::turn::SessionEvent;
 use sot_box::Point;
 use sot_lang::Draft;
 use sot_tube::Accepted;
-use sot_world::OpenFail;
 use std::alloc::{AllocError, Global};
 use std::marker::Model;
 
@@ -29,6 +33,7 @@ use std::marker::Model;
 pub struct Session<'a> {
     guard: Guard<'a>,
     turn: SessionEvent,
+    seen: bool,
     drafts: Vec<Draft>,
     drafted: Vec<bool>,
     told: Vec<Told>,
@@ -53,28 +58,32 @@ impl<'a> Model for Session<'a> {
 
 impl<'a> Session<'a> {
     /// A session whose plants start at these points, one for each plant with a coordinate for each
-    /// of its state variables. It takes all memory that the session will ever need. `NotSafer`
-    /// names the first module whose plant starts outside the module's safer region.
+    /// of its state variables. It takes all memory that the session will ever need. `NotHeldSafe`
+    /// and `Memory` as [`Guard::begin`] says them.
     pub fn begin(
         alloc: Global,
         acc: &'a Accepted<'a>,
         start: &[Point],
-    ) -> Result<Session<'a>, OpenFail>
+    ) -> Result<Session<'a>, BeginFail>
         requires { AreStarts acc.now.program start.now }
         ensures opening { IfOk result (λ s. IsOpening acc.now.program start.now s.guarding.at) }
-        ensures safer { IfOk result (λ s. IsSafer acc.now.program s.guarding.at) }
+        ensures held { IfOk result (λ s.
+            AreHeldSafe acc.now.program acc.now.cert.jitter s.guarding.at) }
         ensures trusted { IfOk result (λ s. s.guarding.trusted ≡ true) }
         ensures accepted { IfOk result (λ s. s.guarding.accepted ≡ acc.now) }
         ensures turn { IfOk result (λ s. s.turn ≡ Instant) }
+        ensures seen { IfOk result (λ s. s.seen ≡ true) }
         ensures no_drafts { IfOk result (λ s. NoDrafts s) }
         ensures nothing_told { IfOk result (λ s. s.told ≡ []) }
-        ensures not_safer { IfErr result (λ f.
-            IfNotSafer f (λ m. IsFirstOutside acc.now.program start.now m)) }
+        ensures not_held { IfErr result (λ f.
+            IfNotHeld f (λ m. IsStartUnsafe acc.now.program acc.now.cert.jitter start.now m)) }
+        ensures memory { IsErrOf result BeginFail.Memory → AtOpening acc.now.program start.now
+            (λ C. AreHeldSafe acc.now.program acc.now.cert.jitter C) }
     {
         match Guard::begin(alloc, acc, start) {
             Ok(guard) => match Session::around(alloc, guard) {
                 Ok(session) => Ok(session),
-                Err(_) => Err(OpenFail::Memory),
+                Err(_) => Err(BeginFail::Memory),
             },
             Err(fail) => Err(fail),
         }
@@ -84,6 +93,7 @@ impl<'a> Session<'a> {
     fn around(alloc: Global, guard: Guard<'a>) -> Result<Session<'a>, AllocError>
         ensures guarding { IfOk result (λ s. s.guarding ≡ guard.entry) }
         ensures turn { IfOk result (λ s. s.turn ≡ Instant) }
+        ensures seen { IfOk result (λ s. s.seen ≡ true) }
         ensures no_drafts { IfOk result (λ s. NoDrafts s) }
         ensures nothing_told { IfOk result (λ s. s.told ≡ []) }
     {
@@ -94,6 +104,7 @@ impl<'a> Session<'a> {
         Ok(Session {
             guard,
             turn: SessionEvent::Instant,
+            seen: true,
             drafts,
             drafted,
             told,
@@ -113,6 +124,13 @@ impl<'a> Session<'a> {
         ensures { result ≡ self.now.turn }
     {
         self.turn
+    }
+
+    /// Whether all plants were observed at the present time.
+    pub fn seen(&self) -> bool
+        ensures { result ≡ self.now.seen }
+    {
+        self.seen
     }
 
     /// What happened in the last instant that was gone through, in order.
@@ -198,9 +216,9 @@ impl<'a> Session<'a> {
     }
 
     /// The plants are at these points after the tick. The first state variable outside the least
-    /// interval of its next value is handed out, at most once in a session, and then the safe node
-    /// of each module is left to fire, whether it is due or not. `OutOfTurn` before the
-    /// instant was gone through; `TooFar` at time 100,000; `NotALine` where there is not one point
+    /// interval of its next value is handed out where the models were trusted, and then the safe
+    /// node of each module is left to fire, whether it is due or not. `OutOfTurn` before the
+    /// instant was gone through; `TooFar` at time 10^12; `NotALine` where there is not one point
     /// for each plant, of its width.
     pub fn tick(&mut self, points: &[Point]) -> Result<Option<Outside>, Misheard>
         ensures { MatchResult result
@@ -211,7 +229,7 @@ impl<'a> Session<'a> {
             SessionEvent::Instant => return Err(Misheard::OutOfTurn),
             SessionEvent::Tick => {}
         }
-        if self.guard.time() >= 100_000 {
+        if self.guard.time() >= LAST_TIME {
             return Err(Misheard::TooFar);
         }
         if !are_points(self.guard.typed(), points) {
@@ -219,12 +237,38 @@ impl<'a> Session<'a> {
         }
         let outside = self.guard.observe(points);
         self.turn = SessionEvent::Instant;
+        self.seen = true;
         self.guard.ask_safe_nodes_if(outside.is_some());
         Ok(outside)
     }
 
-    /// In an instant: the models are trusted no more. Every module is in mode Sc from now on, and
-    /// its safe node is left to fire, whether it is due or not.
+    /// The models are to be trusted again, which they are where the commands in force hold every
+    /// module's plant safe until its safe node fires, with exactly what is due left. Else nothing
+    /// changes, and the first module whose plant they do not hold is handed out. `OutOfTurn` after
+    /// the instant was gone through; `NotDue` where the models are trusted; `NotSeen` where the
+    /// plants were not observed at this time.
+    pub fn resume(&mut self) -> Result<Option<u32>, Misheard>
+        ensures { MatchResult result
+            (λ unheld. MatchOption unheld
+            (Resumes self.old self.new)
+            (λ m. (self.new ≡ self.old) × MayNotResume self.old m))
+            (λ why. (self.new ≡ self.old) × RefusesResume self.old why) }
+    {
+        match self.turn {
+            SessionEvent::Tick => return Err(Misheard::OutOfTurn),
+            SessionEvent::Instant => {}
+        }
+        if self.guard.trusted() {
+            return Err(Misheard::NotDue);
+        }
+        if !self.seen {
+            return Err(Misheard::NotSeen);
+        }
+        Ok(self.guard.resume())
+    }
+
+    /// In an instant: the models are trusted no more. Every module is in mode Sc, and its safe node
+    /// is left to fire, whether it is due or not.
     pub fn withdraw(&mut self)
         requires { self.old.turn ≡ Instant }
         ensures { IsWithdrawn self.old self.new }
@@ -238,7 +282,7 @@ impl<'a> Session<'a> {
     /// as many as there are plants.
     pub fn pass_unseen(&mut self, room: &mut [Point])
         requires turn { self.old.turn ≡ Tick }
-        requires time { self.old.guarding.at.time < 100000 }
+        requires time { self.old.guarding.at.time < last_time }
         requires room { length room.old ≡ length (program_of self.old).plants }
         ensures passes { PassesUnseen self.old self.new }
         ensures room { length room.new ≡ length room.old }
@@ -249,5 +293,6 @@ impl<'a> Session<'a> {
         self.guard.withdraw();
         self.guard.ask_safe_nodes();
         self.turn = SessionEvent::Instant;
+        self.seen = false;
     }
 }

@@ -1,6 +1,6 @@
 //! What a guard does in an instant, and what it makes of the next observations.
 
-ghost use Rattle.std.specs.Prelude.{◌≡◌, ◌<◌, length, true, false, List, None, take, MatchOption};
+ghost use Rattle.std.specs.Prelude.{◌≡◌, ℕ, ◌<◌, length, true, false, List, None, take, MatchOption};
 ghost use Rattle.sot_lists.specs.Places.{At};
 ghost use Rattle.sot_lang.specs.declared.act.Act.{Act};
 ghost use Rattle.sot_lang.specs.declared.tables.TopicInfo.{TopicInfo};
@@ -15,12 +15,18 @@ ghost use Rattle.sot_world.specs.Outcomes.{NodeFired};
 ghost use Rattle.sot_world.specs.StepOutcomes.{IsFiring};
 ghost use Rattle.sot_guard.specs.Changes.{DecidesWhere, FiresCode, MovesTo, GoesOn, Withdraws};
 ghost use Rattle.sot_guard.specs.Changes.{Distrusts, AsksSafeNodes};
+ghost use Rattle.sot_guard.specs.Guarding.{last_time};
+ghost use Rattle.sot_guard.specs.HeldParts.{AnswersAt};
+ghost use Rattle.sot_guard.specs.Resuming.{RegainsTrust, StaysUnsafe};
 
 use super::Guard;
 use crate::decide::mode_where;
-use crate::due::{leave_decisions, leave_nodes, leave_safe_nodes};
+use crate::due::{
+    leave_decisions, leave_due_decisions, leave_due_nodes, leave_nodes, leave_safe_nodes,
+};
 use crate::enabled::is_enabled;
 use crate::fire::run;
+use crate::held::first_unheld;
 use crate::outside::{Outside, outside_where};
 use crate::put::{is_still, put_points, put_safe, put_safe_unless};
 use sot_box::Point;
@@ -44,7 +50,7 @@ impl<'a> Guard<'a> {
     }
 
     /// A module, which is left to decide, does so, and answers its mode afterwards. It stays in
-    /// mode Sc where the models are no longer trusted.
+    /// mode Sc where the models are not trusted.
     pub fn decide(&mut self, module: u32) -> Mode
         requires there { «module» < length self.old.accepted.program.modules }
         requires left { is_left_dm self.old.at «module» ≡ true }
@@ -66,7 +72,7 @@ impl<'a> Guard<'a> {
     }
 
     /// A coded node, which is left, fires with what its body gives on the present numbers. A
-    /// disabled node has new locals, and publishes nothing. Where the models are no longer trusted
+    /// disabled node has new locals, and publishes nothing. Where the models are not trusted
     /// the body may trap, and then nothing is drafted.
     pub fn fire_code(&mut self, node: u32) -> Firing
         requires coded { (info : NodeInfo) × (acts : List Act)
@@ -113,7 +119,8 @@ impl<'a> Guard<'a> {
         }
     }
 
-    /// The models are trusted no more: every module is in mode Sc from now on. Nothing else changes.
+    /// The models are trusted no more: every module is in mode Sc until they are again. Nothing else
+    /// changes.
     pub fn withdraw(&mut self)
         ensures { Distrusts self.old self.new }
     {
@@ -142,13 +149,47 @@ impl<'a> Guard<'a> {
         }
     }
 
+    /// Where the models are not trusted, and each plant is known to be at its point: with what is
+    /// due left and nothing else, the first module whose plant the commands in force do not hold
+    /// safe until its safe node fires, and nothing changes; or, where there is none, the models are
+    /// trusted again.
+    pub fn resume(&mut self) -> Option<u32>
+        requires { self.old.trusted ≡ false }
+        ensures { MatchOption result
+            (RegainsTrust self.old self.new)
+            (λ m. (self.new ≡ self.old) × StaysUnsafe self.old m) }
+    {
+        let p = self.accepted.typed();
+        let jitter = self.accepted.cert().jitter;
+        match first_unheld(p, jitter, self.time, &self.scalars, &self.points) {
+            Some(module) => Some(module),
+            None => {
+                self.trust_again();
+                None
+            }
+        }
+    }
+
+    // What is due is left, and the models are trusted.
+    fn trust_again(&mut self)
+        requires off { self.old.trusted ≡ false }
+        requires held { (m : ℕ) → AnswersAt self.old.accepted.program self.old.accepted.cert.jitter
+            self.old.at.time self.old.at.scalars self.old.at.points m true }
+        ensures { RegainsTrust self.old self.new }
+    {
+        let p = self.accepted.typed();
+        leave_due_nodes(&p.nodes, self.time, &mut self.left);
+        leave_due_decisions(&p.modules, self.time, &mut self.left_dm);
+        self.trusted = true;
+    }
+
     /// After a tick, at which nothing was left, each plant is observed at a point. Where the models
     /// were trusted so far, each point is tested against the least box of its plant's next state;
     /// the first state variable outside is told, and ends the trust: every module is in mode Sc.
     pub fn observe(&mut self, next: &[Point]) -> Option<Outside>
         requires points { ArePoints self.old.accepted.program next.now }
         requires settled { NothingLeft self.old.accepted.program self.old.at }
-        requires time { self.old.at.time < 100000 }
+        requires time { self.old.at.time < last_time }
         ensures moves { MovesTo self.old.accepted.program next.now self.old.at self.new.at }
         ensures accepted { self.new.accepted ≡ self.old.accepted }
         ensures told { MatchOption result

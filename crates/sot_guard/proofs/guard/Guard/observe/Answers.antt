@@ -10,6 +10,7 @@ use Rattle.sot_world.specs.Configurations.{is_left, is_left_dm}
 use Rattle.sot_world.specs.Calendar.{NothingLeft}
 use Rattle.sot_world.specs.Changes.{ArePoints}
 use Rattle.sot_guard.specs.GuardView.{configuration}
+use Rattle.sot_guard.specs.Guarding.{last_time}
 use Rattle.sot_guard.specs.Outside.{HaveBoxes}
 use Rattle.sot_guard.proofs.Guards.{have_boxes}
 use Rattle.sot_guard.proofs.Moves.{observed, moves_so}
@@ -64,7 +65,7 @@ leave_nodes-requires-clause-periods c = λ n node at.
     let program = c.typed-p.ensures.program in
     let nodes = c.deref-3.ensures.value ∙ ap (λ t. t.nodes) (c.p.view_is ∙ program) in
     let there = subst (λ l. At l n node) nodes at in
-    (g.rules.typed.node_times n node there, (g.rules.nodes n node there).period)
+    g.rules.typed.node_times n node there
 
 pub leave_nodes-requires-clause-size : goal.leave_nodes-requires-clause-size
 leave_nodes-requires-clause-size c =
@@ -81,7 +82,7 @@ leave_decisions-requires-clause-periods c = λ m info at.
     let program = c.typed-p.ensures.program in
     let modules = c.deref-4.ensures.value ∙ ap (λ t. t.modules) (c.p.view_is ∙ program) in
     let there = subst (λ l. At l m info) modules at in
-    (g.rules.typed.module_times m info there, (g.rules.modules m info there).period)
+    g.rules.typed.module_times m info there
 
 pub leave_decisions-requires-clause-size : goal.leave_decisions-requires-clause-size
 leave_decisions-requires-clause-size c =
@@ -98,7 +99,7 @@ invariant_of-self c =
     let g = c.self.invariant in
     let program = c.typed-p.ensures.program in
     let next = subst (λ s. ArePoints s.accepted.program c.args.next.now) (sym c.self.view_is) c.requires.points in
-    let below = subst (λ s. s.at.time < 100000) (sym c.self.view_is) c.requires.time in
+    let below = subst (λ s. s.at.time < last_time) (sym c.self.view_is) c.requires.time in
     let none = subst (λ s. NothingLeft s.accepted.program s.at) (sym c.self.view_is) c.requires.settled in
     let w = c.self.inside in
     let nodes = c.deref-3.ensures.value ∙ ap (λ t. t.nodes) (c.p.view_is ∙ program) in
@@ -141,7 +142,7 @@ returns-clause-moves c =
     let g = c.self.invariant in
     let program = c.typed-p.ensures.program in
     let next = subst (λ s. ArePoints s.accepted.program c.args.next.now) (sym c.self.view_is) c.requires.points in
-    let below = subst (λ s. s.at.time < 100000) (sym c.self.view_is) c.requires.time in
+    let below = subst (λ s. s.at.time < last_time) (sym c.self.view_is) c.requires.time in
     let none = subst (λ s. NothingLeft s.accepted.program s.at) (sym c.self.view_is) c.requires.settled in
     let w = c.self.inside in
     let nodes = c.deref-3.ensures.value ∙ ap (λ t. t.nodes) (c.p.view_is ∙ program) in
@@ -178,7 +179,7 @@ returns-clause-told c =
     let g = c.self.invariant in
     let program = c.typed-p.ensures.program in
     let next = subst (λ s. ArePoints s.accepted.program c.args.next.now) (sym c.self.view_is) c.requires.points in
-    let below = subst (λ s. s.at.time < 100000) (sym c.self.view_is) c.requires.time in
+    let below = subst (λ s. s.at.time < last_time) (sym c.self.view_is) c.requires.time in
     let none = subst (λ s. NothingLeft s.accepted.program s.at) (sym c.self.view_is) c.requires.settled in
     let w = c.self.inside in
     let nodes = c.deref-3.ensures.value ∙ ap (λ t. t.nodes) (c.p.view_is ∙ program) in

@@ -1,6 +1,6 @@
-use Rattle.std.proofs.Common.{◌<◌, refl, sym, ap, ◌∙◌, subst}
+use Rattle.std.proofs.Common.{◌<◌, false, refl, sym, ap, ◌∙◌, subst}
 use Rattle.sot_world.specs.Changes.{ArePoints}
-use Rattle.sot_guard.specs.Guarding.{Guarding}
+use Rattle.sot_guard.specs.Guarding.{Guarding, last_time}
 use Rattle.sot_guard.specs.Changes.{MovesTo}
 use Rattle.sot_guard.specs.Hearing.{PassesUnseen, program_of}
 use Rattle.sot_guard.specs.SessionView.{hearing}
@@ -15,9 +15,9 @@ observe-requires-clause-points c =
 pub returns-clause-passes : goal.returns-clause-passes
 returns-clause-passes c =
     let h = hearing c.self.inside in
-    let k = record h { guarding = c.ask_safe_nodes.new.self; turn = Instant } in
+    let k = record h { guarding = c.ask_safe_nodes.new.self; turn = Instant; seen = false } in
     let turn = ap (λ x. x.turn) c.self.view_is ∙ c.requires.turn in
-    let time = subst (λ x. x.guarding.at.time < 100000) (sym c.self.view_is) c.requires.time in
+    let time = subst (λ x. x.guarding.at.time < last_time) (sym c.self.view_is) c.requires.time in
     let moves = subst (λ ps. MovesTo (program_of h) ps h.guarding.at c.observe.new.self.at) c.put_states.ensures c.observe.ensures.moves in
     subst (λ x. PassesUnseen x k) c.self.view_is (record {
       turn = turn;

@@ -1,0 +1,7 @@
+use Rattle.std.proofs.Common.{◌<◌, ℕ, true}
+use Rattle.sot_guard.specs.HeldParts.{AnswersAt}
+use Rattle.sot_guard.proofs.held.first_unheld.Given as goal
+
+-- the modules before this one are held
+abbrev pub invariant-loop-module : goal.invariant-loop-module
+invariant-loop-module l = (k : ℕ) → k < l.«module» → AnswersAt l.p l.jitter l.time l.scalars l.points k true
