@@ -30,6 +30,7 @@ text{font:11px sans-serif;fill:#222}
 .ignored{stroke:#b36b00;stroke-width:1.5}
 .blind{stroke:#c00;stroke-width:2.5}
 .lost{stroke:#c00;stroke-dasharray:4 3}
+.resumed{stroke:#080;stroke-dasharray:4 3}
 .badbox{fill:#d00;fill-opacity:.12;stroke:#d00;stroke-dasharray:2 2}
 .badcell{fill:none;stroke:#d00;stroke-width:2}
 .badpoint{fill:#d00}
@@ -58,6 +59,7 @@ text{fill:#ddd}
 .ignored{stroke:#f0b050}
 .blind{stroke:#ff6b6b}
 .lost{stroke:#ff6b6b}
+.resumed{stroke:#6bcf6b}
 .badbox{fill:#ff6b6b;stroke:#ff6b6b}
 .badcell{stroke:#ff6b6b}
 .badpoint{fill:#ff6b6b}

@@ -450,7 +450,18 @@ def guard_hint(answer, text):
     if fault:
         found = heard_lines(asked, told, int(fault[1]), fault[2])
         return found + to_do(asked, 'observed', fault[2])
+    if said[-1].startswith('refused start '):
+        return unheld_start_lines(asked)
     return talk_lines(asked, told, said) if said[-1].startswith('end ') else hint_of(asked)
+
+
+def unheld_start_lines(asked):
+    """A plant that the first commands may lead out of its safe region before its safe node fires."""
+    said = missiontext.refusal_of(asked.answer)
+    plant, module = asked.plant_of(said['module']), asked.tables().modules[said['module']]
+    return [f'{plant.name} starts at {point_words(plant, said["point"])}, and `safe` of {module.name} is {region_words(plant, module.safe)}',
+            f'from there the initial commands do not hold it in `safe` until `{module.sc}` fires',
+            f'what to do: bring the robot further inside, or begin with another initial value ({ROBOT}, Trust comes back)']
 
 
 def talk_lines(asked, told, said):
@@ -460,6 +471,7 @@ def talk_lines(asked, told, said):
     except (NotRead, LookupError, ValueError):
         talk = missiontext.Talk('\n'.join(said) + '\n')
     lines = outside_lines(asked, talk.outside) if talk.outside else []
+    lines += unheld_lines(talk) if talk.unheld else []
     counts, firsts = collections.Counter(one[1:] for one in talk.untaken), {}
     for one in talk.untaken:
         firsts.setdefault(one[1:], one)
@@ -480,7 +492,15 @@ def outside_lines(asked, said):
             f'{lo}..{hi}; {LATCHED}', f'see {ROBOT}, When `outside` comes']
 
 
-LATCHED = 'from then on every module is in mode `sc`'
+LATCHED = 'from then on every module is in mode `sc`, until a line `resume` is answered `resumed`'
+
+
+def unheld_lines(talk):
+    """A resume that was refused: which module the commands in force do not hold safe."""
+    time, module = talk.unheld[0]
+    more = f' ({len(talk.unheld)} of them; this is the first)' if len(talk.unheld) > 1 else ''
+    return [f'time {time}: no resume, since the commands in force may lead the plant of `{module}` out of its safe region '
+            f'before its safe node fires{more}', f'see {ROBOT}, Trust comes back']
 
 
 def untaken_lines(asked, talk, one, count):

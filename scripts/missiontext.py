@@ -35,14 +35,15 @@ Said = collections.namedtuple('Said', 'time number line')
 # what a robot may say, and what soter_guard does
 NUMBERS_SAID = r'-?\d+(?:,-?\d+)*'
 WRITES_SAID = r'(?: \w+(?:\.\w+)?[=!]-?\d+)*'
-TOLD = re.compile(rf'start \w+\({NUMBERS_SAID}\)|input \w+={NUMBERS_SAID}|draft \w+{WRITES_SAID}|go'
+TOLD = re.compile(rf'start \w+\({NUMBERS_SAID}\)|input \w+={NUMBERS_SAID}|draft \w+{WRITES_SAID}|go|resume'
                   rf'|tick(?: \w+\({NUMBERS_SAID}\))*', re.A)
 ANSWERED = re.compile(
     rf'accepted|modules \d+ nodes \d+ cells \d+|\d+ input \w+={NUMBERS_SAID}|\d+ decide \w+ (?:ac|sc)'
     rf'|\d+ (?:fire|idle) \w+{WRITES_SAID}|\d+ hold \w+(?: \w+(?:\.\w+)?=-?\d+)*|\d+ ready'
-    r'|\d+ outside plant \w+ state \w+ \[-?\d+\.\.-?\d+\] observed -?\d+|\d+ ignored (?:draft|input) \w+|\d+ blind \w+'
+    r'|\d+ outside plant \w+ state \w+ \[-?\d+\.\.-?\d+\] observed -?\d+|\d+ ignored (?:draft|input|resume) \w+|\d+ blind \w+'
+    r'|\d+ resumed|\d+ refused resume module \w+'
     r'|end \d+ events \d+|fault observed line \d+ \w+|refused start module \w+ point \(.*\)', re.A)
-ASIDES = ('draft', 'input')
+ASIDES = ('draft', 'input', 'resume')
 
 
 class NotRead(Exception):
@@ -501,11 +502,13 @@ class Talk(Trace):
 
     It has to be one that `soter_guard` answered. Each side's lines stand in their order; how they lie between those of
     the other side does not count. Of a tick the disturbances are not known. A tick in whose place a line was not taken
-    is an event `unseen`.
+    is an event `unseen`. `lost` has the time and the line of each loss of trust, `resumed` the times at which it came
+    back, `unheld` the time and the module of each resume that was refused.
     """
 
     def __init__(self, text):
-        self.starts, self.events, self.horizon, self.outside, self.trust_ends = {}, [], None, None, None
+        self.starts, self.events, self.horizon, self.outside = {}, [], None, None
+        self.lost, self.resumed, self.unheld = [], [], []
         self.untaken, self.asides, self.blinds, self.fault = [], [], [], None
         told, lines = [], text.split('\n')
         for number, line in enumerate(lines[:-1] if lines[-1] == '' else lines, 1):
@@ -527,8 +530,12 @@ class Talk(Trace):
             self.events.append(event_of(number, words[:-1]))
         elif words[1] == 'outside':
             lo, hi = words[6][1:-1].split('..')
-            self.outside = Outside(int(words[0]), words[3], words[5], int(lo), int(hi), int(words[8]))
-            self.end_trust(self.outside.time, ' '.join(words[:-1]))
+            self.outside = self.outside or Outside(int(words[0]), words[3], words[5], int(lo), int(hi), int(words[8]))
+            self.end_trust(int(words[0]), ' '.join(words[:-1]))
+        elif words[1] == 'resumed':
+            self.resumed.append(int(words[0]))
+        elif words[1:3] == ['refused', 'resume']:
+            self.unheld.append((int(words[0]), words[4]))
         elif words[1] in ('ignored', 'blind'):
             about = words[2] if words[1] == 'ignored' else ''
             self.untaken.append(Untaken(int(words[0]), words[1], about, words[-2]))
@@ -536,8 +543,13 @@ class Talk(Trace):
                 self.end_trust(int(words[0]), ' '.join(words[:-1]))
 
     def end_trust(self, time, line):
-        """From then on the models are not trusted; the first such line counts."""
-        self.trust_ends = self.trust_ends or (time, line)
+        """From then on the models are not trusted, up to a line `resumed`; the first such line counts."""
+        if len(self.lost) == len(self.resumed):
+            self.lost.append((time, line))
+
+    def is_trusted(self, time):
+        """Whether the models are trusted at a time, in the instant once it was gone through."""
+        return sum(at <= time for at, _ in self.lost) == sum(at <= time for at in self.resumed)
 
     def count(self, kind):
         """How many lines were answered so, by the time."""

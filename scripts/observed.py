@@ -12,8 +12,8 @@ sys.dont_write_bytecode = True
 import missiontext
 from meaning import LEAST, MOST, Meaning, Trap, covers
 
-HORIZON, LONGEST, TOO_LONG = 100000, 30, 65536
-ASIDES = ('draft', 'input')
+HORIZON, LONGEST, TOO_LONG = 10 ** 12, 30, 65536
+ASIDES = ('draft', 'input', 'resume')
 NAME = r'[A-Za-z_][A-Za-z0-9_]*'
 NUMBER = r'(?:0|-?[1-9][0-9]*)'
 NUMBERS = rf'{NUMBER}(?:,{NUMBER})*'
@@ -30,7 +30,7 @@ class Misheard(Exception):
 
 
 class Refused(Exception):
-    """A plant starts outside its module's safer region."""
+    """A plant starts where the first commands do not hold its module safe."""
 
 
 def numbers_of(text):
@@ -44,8 +44,8 @@ def number_of(text):
 
 def said_of(meaning, line):
     """What a line says, by the names of the program; None where it says nothing."""
-    if line == 'go':
-        return ('go',)
+    if line in ('go', 'resume'):
+        return (line,)
     found = START.fullmatch(line)
     if found:
         place = [plant for plant in meaning.plants if plant.name == found[2]]
@@ -93,7 +93,7 @@ class Guard:
 
     def begin(self):
         """Before the first plant was observed; what was found of points is kept."""
-        self.time, self.events, self.trusted, self.turn, self.outside = 0, 0, True, 'start', None
+        self.time, self.events, self.trusted, self.seen, self.turn, self.outside = 0, 0, True, True, 'start', None
         self.scalars = dict(self.meaning.initial)
         self.modes = {module.name: 'sc' for module in self.meaning.modules}
         self.locals = {node.name: dict(node.first) for node in self.meaning.nodes}
@@ -103,20 +103,45 @@ class Guard:
 
     # --- time ---------------------------------------------------------------------------------------------------------
 
+    def due_now(self):
+        """The nodes and modules that are due."""
+        return {thing.name for thing in [*self.meaning.nodes, *self.meaning.modules]
+                if self.time >= thing.offset and (self.time - thing.offset) % thing.period == 0}
+
     def note_due(self):
-        for thing in [*self.meaning.nodes, *self.meaning.modules]:
-            if self.time >= thing.offset and (self.time - thing.offset) % thing.period == 0:
-                self.left.add(thing.name)
+        self.left |= self.due_now()
 
     def open_up(self):
-        """The talk begins once all plants were observed, where each of them is in its safer region."""
+        """The talk begins once all plants were observed, where the first commands hold each module safe."""
         if len(self.points) < len(self.meaning.plants):
             return
         self.turn = 'instant'
-        for module in self.meaning.modules:
-            point = self.point_of(module.plant)
-            if not is_in(module.safer, point):
-                raise Refused(f'refused start module {module.name} point ({", ".join(map(str, point))})')
+        module = self.first_unsafe(self.left)
+        if module:
+            raise Refused(f'refused start module {module.name} point ({", ".join(map(str, self.point_of(module.plant)))})')
+
+    def may_start(self, points):
+        """Whether a talk may begin with the plants at these points."""
+        self.begin()
+        self.points = points
+        return self.first_unsafe(self.left) is None
+
+    def first_unsafe(self, left):
+        """The first module that the commands in force do not hold safe until its safe node fires; `left` is what is to fire."""
+        return next((module for module in self.meaning.modules if not self.is_held(module, left)), None)
+
+    def is_held(self, module, left):
+        plant = next(plant for plant in self.meaning.plants if plant.name == module.plant)
+        held = {name: (self.scalars[name], self.scalars[name]) for name in plant.inputs}
+        return self.tube_stays(module, self.point_of(module.plant), held, self.until_fires(module.sc, left))
+
+    def until_fires(self, name, left):
+        """So many ticks until a node fires at the latest."""
+        node = next(node for node in self.meaning.nodes if node.name == name)
+        if name in left:
+            return self.jitter
+        wait = node.offset - self.time if self.time < node.offset else node.period - (self.time - node.offset) % node.period
+        return wait + self.jitter
 
     def point_of(self, name):
         return self.points[[plant.name for plant in self.meaning.plants].index(name)]
@@ -136,13 +161,14 @@ class Guard:
             return self.ignore(line, why) if line.startswith(ASIDES) else self.go_blind(line, why)
 
     def ignore(self, line, why):
-        """A draft or an input that is not taken changes nothing."""
-        return [f'{self.time} ignored {line[:5]} {why}']
+        """A draft, an input or a resume that is not taken changes nothing."""
+        return [f'{self.time} ignored {next(word for word in ASIDES if line.startswith(word))} {why}']
 
     def go_blind(self, line, why):
         """Another line is not taken: a tick that was to come passes unseen, and the models are trusted no more."""
         if self.turn == 'tick':
             self.pass_tick(self.points)
+            self.seen = False
         self.withdraw()
         return [f'{self.time} blind {why}'] + (self.go() if line == 'go' else [])
 
@@ -156,7 +182,7 @@ class Guard:
             return self.start(*parts) if kind == 'start' else misheard('OutOfTurn')
         if kind == 'start' or (kind == 'tick') != (self.turn == 'tick'):
             raise Misheard('OutOfTurn')
-        return {'input': self.input, 'draft': self.draft, 'go': self.go, 'tick': self.tick}[kind](*parts)
+        return {'input': self.input, 'draft': self.draft, 'go': self.go, 'tick': self.tick, 'resume': self.resume}[kind](*parts)
 
     def start(self, name, point):
         if name != self.meaning.plants[len(self.points)].name:
@@ -197,6 +223,19 @@ class Guard:
             lines.append(f'{self.time} hold {plant.name}' + ''.join(f' {name}={self.scalars[name]}' for name in plant.inputs))
         return lines + [f'{self.time} ready']
 
+    def resume(self):
+        """The models are trusted again, where the commands in force hold every module safe; what is due is left to fire."""
+        if self.trusted:
+            raise Misheard('NotDue')
+        if not self.seen:
+            raise Misheard('NotSeen')
+        due = self.due_now()
+        module = self.first_unsafe(due)
+        if module:
+            return [f'{self.time} refused resume module {module.name}']
+        self.trusted, self.left = True, due
+        return [f'{self.time} resumed']
+
     def tick(self, points):
         if self.time >= HORIZON:
             raise Misheard('TooFar')
@@ -212,7 +251,7 @@ class Guard:
         return [f'{self.time} outside plant {plant} state {state} [{lo}..{hi}] observed {number}']
 
     def pass_tick(self, points):
-        self.time, self.points, self.turn = self.time + 1, points, 'instant'
+        self.time, self.points, self.turn, self.seen = self.time + 1, points, 'instant', True
         self.events += 1
         self.note_due()
 
@@ -288,11 +327,17 @@ class Guard:
 
     def stays(self, module, point):
         plant = next(plant for plant in self.meaning.plants if plant.name == module.plant)
-        around = {name: (self.meaning.ranges[name].lo, self.meaning.ranges[name].hi) for name in plant.inputs}
+        anything = {name: (self.meaning.ranges[name].lo, self.meaning.ranges[name].hi) for name in plant.inputs}
+        return self.tube_stays(module, point, anything, 2 * (module.period + self.jitter))
+
+    def tube_stays(self, module, point, commands, ticks):
+        """Whether the tube of so many ticks stays inside the safe region from a point, with these commands."""
+        plant = next(plant for plant in self.meaning.plants if plant.name == module.plant)
+        around = dict(commands)
         for name in plant.sees:
             around.update(self.hull_of(name))
         box = [(number, number) for number in point]
-        for _ in range(2 * (module.period + self.jitter)):
+        for _ in range(ticks):
             if not covers(module.safe, box):
                 return False
             try:

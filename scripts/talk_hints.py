@@ -6,7 +6,7 @@ from wording import caret, listing, shown
 
 NAME = re.compile(r'[A-Za-z_][A-Za-z0-9_]*')
 NUMBER = re.compile(r'0|-?[1-9][0-9]*')
-HEADS = ('start', 'input', 'draft', 'go', 'tick')
+HEADS = ('start', 'input', 'draft', 'go', 'tick', 'resume')
 
 
 class Amiss(Exception):
@@ -96,9 +96,9 @@ def read_line(line):
     head = re.match(r'\S*', line.text)[0]
     if head not in HEADS:
         near = head.lower() if head.lower() in HEADS else ''
-        raise Amiss(0, (f'write `{near}`, in small letters' if near else f'a line begins with start, input, draft, go or tick') if head else 'the line is empty, or begins with a blank')
+        raise Amiss(0, (f'write `{near}`, in small letters' if near else 'a line begins with start, input, draft, go, tick or resume') if head else 'the line is empty, or begins with a blank')
     line.at = len(head)
-    {'go': lambda: None, 'start': lambda: read_start(line, program), 'tick': lambda: read_tick(line, program),
+    {'go': lambda: None, 'resume': lambda: None, 'start': lambda: read_start(line, program), 'tick': lambda: read_tick(line, program),
      'input': lambda: read_input(line, program), 'draft': lambda: read_draft(line, program)}[head]()
     line.end()
 

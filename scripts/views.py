@@ -15,7 +15,8 @@ SHADOWS = ' (shadows)'
 LEGEND = {
     'safe': 'safe region', 'safer': 'safer region', 'closed': 'closed cell', 'reach': 'reach cell', 'path': 'state of the plant',
     'ac': 'advanced node enabled', 'sc': 'safe node enabled', 'fire': 'fired', 'idle': 'fired, not heard', 'refused': 'a number refused',
-    'ignored': 'a draft or an input ignored', 'blind': 'a line not taken: the robot is not seen', 'lost': 'the models are trusted no more',
+    'ignored': 'a line ignored: a draft, an input or a resume', 'blind': 'a line not taken: the robot is not seen', 'lost': 'the models are trusted no more',
+    'resumed': 'the models are trusted again',
     'noise': 'disturbance', 'bound': 'its bounds', 'badcell': 'failing cell', 'badbox': 'where it may come to', 'badpoint': 'failing point',
 }
 OBSERVED = {'path': 'observed state', 'badbox': 'where its model allows it to be', 'badpoint': 'observed outside'}
@@ -36,7 +37,9 @@ class View:
         self.talk, self.outside = judged.talk, judged.talk and judged.talk.outside
         if self.outside and self.outside.plant != self.plant.name:
             self.outside = None
-        self.lost = judged.talk and judged.talk.trust_ends
+        self.lost = judged.talk.lost if judged.talk else []
+        self.resumed = judged.talk.resumed if judged.talk else []
+        self.to_lose = [at for at, _ in self.lost]
         self.fly_over(judged.trace)
 
     def fly_over(self, trace):
@@ -62,8 +65,10 @@ class View:
 
     def lose_trust(self, time):
         """Once the models are trusted no more the safe node is in charge at once, and not first when its module decides."""
-        if self.lost and time >= self.lost[0] and self.modes[-1][1] != 'sc':
-            self.modes.append((self.lost[0], 'sc'))
+        while self.to_lose and time >= self.to_lose[0]:
+            at = self.to_lose.pop(0)
+            if self.modes[-1][1] != 'sc':
+                self.modes.append((at, 'sc'))
 
     def bad(self):
         """What failed, as (class, box or point, words)."""
@@ -211,9 +216,9 @@ class Picture:
         self.sheet.put('polyline', f'{view.plant.name}.{name}', class_=self.show('path'), points=places, data_values=listed(values))
         self.draw_bad_start(view, state, time, axis)
         self.draw_outside(view, state, time, axis)
-        if view.lost:
-            at, words = view.lost
-            self.sheet.put('path', f'{words}: {LEGEND["lost"]}', class_=self.show('lost'), d=f'M{time.at(at):.2f} {self.y:.2f}v{height}', data_time=at)
+        marks = [('lost', at, words) for at, words in view.lost] + [('resumed', at, f'{at} resumed') for at in view.resumed]
+        for kind, at, words in marks:
+            self.sheet.put('path', f'{words}: {LEGEND[kind]}', class_=self.show(kind), d=f'M{time.at(at):.2f} {self.y:.2f}v{height}', data_time=at)
         self.sheet.close('g')
         self.y += height
 
@@ -412,7 +417,7 @@ class Picture:
         """What was said of the mission, and whether that is bad."""
         judged, talk = self.judged, self.judged.talk
         if talk and judged.status == 0:
-            return (f'soter_guard: {talk.trust_ends[1]}', True) if talk.trust_ends else ('soter_guard: no plant outside its model', False)
+            return (f'soter_guard: {talk.lost[0][1]}', True) if talk.lost else ('soter_guard: no plant outside its model', False)
         return f'soter {judged.command}: {judged.answer if judged.command == "check" or judged.status else "accepted and flown"}', judged.status != 0
 
     def text(self, about):
@@ -435,7 +440,7 @@ class Picture:
         return head.whole(WIDTH, round(height + self.y + 14), f'soter: {about}', words)
 
     def swatch(self, head, kind, x, y):
-        if kind in ('path', 'noise', 'fire', 'idle', 'refused', 'ignored', 'blind', 'lost'):
+        if kind in ('path', 'noise', 'fire', 'idle', 'refused', 'ignored', 'blind', 'lost', 'resumed'):
             head.put('path', class_=kind, d=f'M{x:.2f} {y + 6:.2f}h15')
         elif kind == 'badpoint':
             head.put('circle', class_=kind, cx=x + 8, cy=y + 6, r=4)

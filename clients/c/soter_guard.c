@@ -29,6 +29,7 @@ struct soter_guard {
     pid_t process;
     int to, from;             /* a socket to the program, and a pipe from it */
     int is_lost, is_trusted;
+    int64_t resumes;          /* how many lines `resume` were answered */
     enum turn turn;
     int64_t time;
     size_t said_length;       /* of the line that is built */
@@ -316,7 +317,7 @@ static const char *behind_time(const char *line, int64_t *at)
     size_t i;
 
     *at = 0;
-    for (i = 0; line[i] >= '0' && line[i] <= '9' && i < 9; i++)
+    for (i = 0; line[i] >= '0' && line[i] <= '9' && i < 18; i++)
         *at = 10 * *at + (line[i] - '0');
     return i > 0 && line[i] == ' ' ? line + i + 1 : NULL;
 }
@@ -354,6 +355,10 @@ static int hear_line(soter_guard *guard, const char *line)
         return keep_held(guard, said + strlen("hold "));
     if (begins(said, "ignored "))
         guard->instant.ignored++;
+    if (begins(said, "refused resume ") || begins(said, "ignored resume ") || strcmp(said, "resumed") == 0)
+        guard->resumes++;
+    if (strcmp(said, "resumed") == 0)
+        guard->is_trusted = 1;
     if (begins(said, "outside ") || begins(said, "blind ")) {
         guard->is_trusted = 0;
         copy(guard->trouble, line);
@@ -611,6 +616,25 @@ int soter_guard_draft_text(soter_guard *guard, const char *node, const char *tex
     memcpy(guard->said + guard->said_length, text, length);
     guard->said_length += length;
     return tell_line(guard);
+}
+
+int soter_guard_resume(soter_guard *guard, int *is_trusted)
+{
+    double end = now() + guard->options.deadline;
+    const char *nothing = "";
+    size_t none = 0;
+    int64_t before = guard->resumes;
+    int result = begin_instant(guard);
+
+    if (result == SOTER_GUARD_DONE)
+        result = tell(guard, "resume\n", strlen("resume\n"), end);
+    while (result == SOTER_GUARD_DONE && guard->resumes == before) {
+        result = exchange(guard, &nothing, &none, end);
+        if (result == SOTER_GUARD_DONE)
+            result = hear_lines(guard);
+    }
+    *is_trusted = result == SOTER_GUARD_DONE && guard->is_trusted;
+    return result;
 }
 
 /* The commands of the last instant are in force no more. */

@@ -20,7 +20,7 @@ typedef struct soter_guard soter_guard;
 enum soter_guard_result {
     SOTER_GUARD_DONE = 0,
     SOTER_GUARD_LEFT_OUT = 1,   /* a draft, an input or a start has no number that can be told: nothing was told */
-    SOTER_GUARD_UNSEEN = 2,     /* a tick was told as `tick lost`: the guard is blind from then on */
+    SOTER_GUARD_UNSEEN = 2,     /* a tick was told as `tick lost`: the guard is blind then */
     SOTER_GUARD_WRONG_USE = -1, /* a call out of turn, no name, or a line too long: nothing was told */
     SOTER_GUARD_LOST = -2       /* the guard is heard no more, and the fallback has been called */
 };
@@ -48,7 +48,7 @@ typedef struct {
 typedef struct {
     int64_t time;
     int is_trusted;      /* whether the models are trusted still */
-    int ignored;         /* how many drafts and inputs were not taken */
+    int ignored;         /* how many drafts, inputs and resumes were not taken */
     const char *trouble; /* the line `outside` or `blind`, in the instant in which it comes; NULL else */
 } soter_guard_instant;
 
@@ -66,6 +66,11 @@ int soter_guard_draft(soter_guard *guard, const soter_guard_numbers *node, const
 
 /* The same by what a planner wrote itself, as `cmd=2`, in mantissas: at most one line, cut between two words. */
 int soter_guard_draft_text(soter_guard *guard, const char *node, const char *text);
+
+/* Asks that the models are trusted again, in this instant, and waits for the answer: whether they are, 1 or 0. They
+ * are where every plant was observed at this time, and the commands in force hold every module safe until its safe node
+ * fires. */
+int soter_guard_resume(soter_guard *guard, int *is_trusted);
 
 /* All of this instant was said: what happened. */
 int soter_guard_go(soter_guard *guard, soter_guard_instant *instant);

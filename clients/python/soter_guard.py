@@ -27,8 +27,8 @@ from typing import Callable, Dict, List, Mapping, Optional, Sequence, TextIO, Un
 
 LEAST, MOST = -2 ** 63, 2 ** 63 - 1
 LONGEST = 65000       # bytes of a line that is told; the guard ends where one has 65,536
-LAST_TIME = 100000    # the time at which a talk ends
-UNSEEN = 'tick lost'  # says nothing to the guard, which is blind from then on
+LAST_TIME = 10 ** 12  # the time at which a talk ends
+UNSEEN = 'tick lost'  # says nothing to the guard, which is blind then
 AT_ONCE = 65536       # bytes that are read at once
 
 Number = Union[int, float]
@@ -158,7 +158,8 @@ class Instant:
 
     `held` are the commands in force until the next tick, by plant and scalar, in units; `mantissas` the same as they
     were told. `modes` are those of all modules. `outside` and `blind` are the lines that end the trust in the models,
-    in the instant in which they come. `ignored` are the lines that tell of a draft or an input which was not taken.
+    in the instant in which they come. `ignored` are the lines that tell of a draft, an input or a resume which was not
+    taken. `resumes` are the other answers to `resume`.
     """
     time: int
     held: Dict[str, Dict[str, Number]] = dataclasses.field(default_factory=dict)
@@ -167,12 +168,25 @@ class Instant:
     outside: Optional[str] = None
     blind: Optional[str] = None
     ignored: List[str] = dataclasses.field(default_factory=list)
+    resumes: List[str] = dataclasses.field(default_factory=list)
     lines: List[str] = dataclasses.field(default_factory=list)
 
     @property
     def is_last(self) -> bool:
         """Whether the talk has come to its end with it: the next call finds no guard."""
         return self.time >= LAST_TIME
+
+
+# an answer to `resume`
+RESUME = re.compile(r'\d+ (?:resumed|refused resume module \w+|ignored resume \w+)', re.A)
+
+
+def is_trusted_after(lines: List[str], trusted: bool) -> bool:
+    """Whether the models are trusted behind these lines of the guard."""
+    for line in lines:
+        kind = line.split(' ')[1]
+        trusted = kind == 'resumed' or trusted and kind not in ('outside', 'blind')
+    return trusted
 
 
 def instant_of(mission: Mission, lines: List[str], now: int, modes: Dict[str, str]) -> Instant:
@@ -188,6 +202,8 @@ def instant_of(mission: Mission, lines: List[str], now: int, modes: Dict[str, st
             instant.modes[words[2]] = words[3]
         elif kind == 'ignored':
             instant.ignored.append(line)
+        elif RESUME.fullmatch(line):
+            instant.resumes.append(line)
         elif kind in ('outside', 'blind'):
             setattr(instant, kind, line)
             instant.modes = dict.fromkeys(modes, 'sc')
@@ -323,6 +339,23 @@ class Guard:
         """Whether a draft of this external node is taken in the present instant."""
         return self._external(node).is_due(self.time)
 
+    def resume(self) -> bool:
+        """Asks that the models are trusted again, in this instant; it waits for the answer, and returns whether they are.
+
+        They are where every plant was observed at this time, and the commands in force hold every module safe until
+        its safe node fires. Else the answer stands in the `resumes` or the `ignored` of the instant.
+        """
+        self._want('instant')
+        before = len(self._resumes())
+        self._say('resume\n')
+        self._pump(lambda: len(self._resumes()) > before, self.deadline)
+        self.is_trusted = is_trusted_after(self._lines, self.is_trusted)
+        return self._resumes()[-1].endswith(' resumed')
+
+    def _resumes(self) -> List[str]:
+        """The answers to `resume` that were heard in this instant."""
+        return [line for line in self._lines if RESUME.fullmatch(line)]
+
     def go(self) -> Instant:
         """All of this instant was said: what happened, and the commands in force."""
         self._want('instant')
@@ -334,7 +367,7 @@ class Guard:
         except (ValueError, IndexError, KeyError) as why:
             self._lose(f'what the guard says is not understood: {why}')
         self._turn, self._lines, self.modes = 'tick', self._lines[end:], instant.modes
-        self.is_trusted = self.is_trusted and not (instant.outside or instant.blind)
+        self.is_trusted = is_trusted_after(instant.lines, self.is_trusted)
         self._keep('')
         return instant
 

@@ -3,6 +3,7 @@
  *
  *   start PLANT D V ..      input TOPIC D V ..      draft NODE SCALAR D V ..     tick PLANT D V .. / PLANT D V ..
  *   text NODE TEXT          go                      held PLANT SCALAR            mantissa D V
+ *   resume
  *
  * D is a count of decimals and V a value. In a TEXT `\n` stands for a line end, and `*` for 70,000 digits. */
 #include <fcntl.h>
@@ -104,6 +105,14 @@ static int go(soter_guard *guard)
     return result;
 }
 
+static int resume(soter_guard *guard)
+{
+    int is_trusted = 0, result = soter_guard_resume(guard, &is_trusted);
+
+    printf("trusted %d\n", is_trusted);
+    return result;
+}
+
 static int number(int64_t *found)
 {
     int of = atoi(word());
@@ -120,6 +129,8 @@ static int done(soter_guard *guard, const char *kind)
 
     if (strcmp(kind, "go") == 0)
         return go(guard);
+    if (strcmp(kind, "resume") == 0)
+        return resume(guard);
     if (strcmp(kind, "tick") == 0)
         return tick(guard);
     if (strcmp(kind, "text") == 0)

@@ -47,7 +47,7 @@ class PythonClient:
                                        deadline=PATIENCE, log=log)
         self.start, self.tick = self.guard.start, self.guard.tick
         self.draft, self.text = self.guard.draft, self.guard.draft_text
-        self.input = self.guard.input
+        self.input, self.resume = self.guard.input, self.guard.resume
 
     def go(self):
         instant = self.guard.go()
@@ -115,6 +115,11 @@ class CClient:
         held = {plant: {scalar: self.held(plant, scalar) for scalar in scalars}
                 for plant, scalars in self.mission.inputs.items()}
         return Seen(int(words[1]), words[3] == '1', int(words[5]), words[7], held)
+
+    def resume(self):
+        lines, result = self.do('resume')
+        want(result, 0, 'the result of resume')
+        return lines == ['trusted 1']
 
     def held(self, plant, scalar):
         lines, result = self.do('held', plant, scalar)
@@ -184,11 +189,13 @@ class Flight:
                            for scalar in scalars]
                 self.told.append(client.input(name, self.in_units(scalars, numbers)))
 
-    def fly(self, client, ticks, lost=None):
-        """The instants of a flight; at the tick `lost` the first sensor says no number."""
+    def fly(self, client, ticks, lost=None, resumes=False):
+        """The instants of a flight; at the tick `lost` the first sensor says no number. Trust is asked back where told."""
         seen = []
         client.start(self.places())
         for time in range(ticks):
+            if resumes and seen and not seen[-1].is_trusted:
+                self.told.append(client.resume())
             self.inputs(client)
             self.drafts(client, time)
             seen.append(client.go())
@@ -205,5 +212,5 @@ def sides_of(log):
     with open(log, encoding='latin-1', newline='') as file:
         mission, _, talk = file.read().partition('%observed\n')
     lines = talk.splitlines()
-    robot = [line for line in lines if line.split(' ')[0] in ('start', 'input', 'draft', 'go', 'tick')]
+    robot = [line for line in lines if line.split(' ')[0] in ('start', 'input', 'draft', 'go', 'tick', 'resume')]
     return mission, robot, [line for line in lines if line not in robot]
