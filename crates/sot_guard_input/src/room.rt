@@ -32,10 +32,12 @@ impl Model for Room {
     ghost invariant = { λ r. (vec_len r.bytes ≡ 65536) × (r.end ≤ 65536) };
 }
 
-// Puts bytes of a source behind the first ones, which stay.
+// Puts bytes of a source behind the first ones, which stay. A source is asked only where no line
+// end has come: who speaks may wait for the answer to a whole line.
 fn read_behind<S: Source>(bytes: &mut [u8], end: usize, source: &mut S) -> Result<usize, Failed>
     requires room { length bytes.old ≡ 65536 }
     requires some { end < 65536 }
+    requires open { has_end (take end bytes.old) ≡ false }
     ensures room { length bytes.new ≡ 65536 }
     ensures more { IfOk result (λ n. (end + n ≤ 65536)
         × ((more : List ℕ) × (length more ≡ n)
@@ -80,7 +82,8 @@ impl Room {
     // Reads more bytes behind those that are there, and tells how many came: none only at the end
     // of the source.
     fn read_more<S: Source>(&mut self, source: &mut S) -> Result<usize, Failed>
-        requires { length self.old < longest }
+        requires room { length self.old < longest }
+        requires open { has_end self.old ≡ false }
         ensures arrives { IfOk result (λ n.
             Arrives (S.left source.old) (S.left source.new) self.old self.new n) }
         ensures same { IfErr result (λ _. self.new ≡ self.old) }
