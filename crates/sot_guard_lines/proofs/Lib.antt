@@ -8,4 +8,6 @@ pub mod ReadPlaces
 pub mod Sayings
 -- what is looked at of it
 pub mod ShownSaid
+-- `resume` is a line by itself
+pub mod Resuming
 mod Named

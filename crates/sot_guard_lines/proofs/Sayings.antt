@@ -27,10 +27,11 @@ use Rattle.sot_trace_lines.proofs.Pieces.{both, then_next, is_ended, in_front}
 use Rattle.sot_trace_lines.proofs.Places.{found, found_at}
 use Rattle.sot_trace_lines.proofs.SoundLines.{spelled_from}
 use Rattle.sot_trace_lines.proofs.ReadLines.{read_spelled, word_is}
-use Rattle.sot_guard_lines.specs.Sayings.{Saying, StartSaid, InputSaid, DraftSaid, GoSaid, TickSaid, place_text, places_text, said_text, IsSaid}
+use Rattle.sot_guard_lines.specs.Sayings.{Saying, StartSaid, InputSaid, DraftSaid, GoSaid, ResumeSaid, TickSaid, place_text, places_text, said_text}
+use Rattle.sot_guard_lines.specs.Sayings.{IsSaid}
 use Rattle.sot_guard_lines.specs.Shown.{SaidOnce}
 use Rattle.sot_guard_lines.specs.Readers.{said_input, said_draft, input_said_at, draft_said_at, point_at, places_at, start_of, start_said_at, tick_said_at}
-use Rattle.sot_guard_lines.specs.Readers.{go_said_at, behind_draft, behind_input, behind_tick, said_at}
+use Rattle.sot_guard_lines.specs.Readers.{go_said_at, resume_said_at, behind_go, behind_draft, behind_input, behind_tick, said_at}
 use Rattle.sot_guard_lines.proofs.ReadPlaces.{point_from, read_point, places_from, read_places}
 
 -- what a trace tells at time 0
@@ -117,15 +118,20 @@ module _ (p : Tables) where
   go_from : (text : List ℕ) (s : Saying) → go_said_at text ≡ Some s → IsSaid p (codes "go" ++ text) s
   go_from text s e = (let ends = is_ended GoSaid s text e in subst (IsSaid p (codes "go" ++ text)) ends.1 (tt, ap (λ x. codes "go" ++ x) ends.0))
 
+  resume_from : (text : List ℕ) (s : Saying) → resume_said_at text ≡ Some s → IsSaid p (codes "resume" ++ text) s
+  resume_from text s e =
+      (let ends = is_ended ResumeSaid s text e in subst (IsSaid p (codes "resume" ++ text)) ends.1 (tt, ap (λ x. codes "resume" ++ x) ends.0))
+
   -- what a line is read as is what it says
   pub said_from : (line : List ℕ) (s : Saying) → said_at p line ≡ Some s → IsSaid p line s
   said_from line s e =
       choose (codes "tick") (tick_said_at p) (behind_tick p line) (λ x. IsSaid p x s) line s (λ rest. tick_from rest s)
       (choose (codes "input ") (input_said_at p) (behind_input p line) (λ x. IsSaid p x s) line s (λ rest. input_from rest s)
       (choose (codes "draft ") (draft_said_at p) (behind_draft p line) (λ x. IsSaid p x s) line s (λ rest. draft_from rest s)
-      (choose (codes "go") go_said_at _ (λ x. IsSaid p x s) line s (λ rest. go_from rest s)
+      (choose (codes "go") go_said_at (behind_go p line) (λ x. IsSaid p x s) line s (λ rest. go_from rest s)
+      (choose (codes "resume") resume_said_at _ (λ x. IsSaid p x s) line s (λ rest. resume_from rest s)
       (choose (codes "start ") (start_said_at p) None (λ x. IsSaid p x s) line s (λ rest. start_from rest s)
-      (λ none. absurd (none-some s none)))))) e
+      (λ none. absurd (none-some s none))))))) e
 
 module _ (p : Tables) (rules : MeetsTableRules p) (words : AreWords p) where
   start_read : (k : ℕ) (plant : PlantInfo) (point : List ℤ) → At p.plants k plant → length point ≡ length plant.states.items
@@ -148,6 +154,7 @@ module _ (p : Tables) (rules : MeetsTableRules p) (words : AreWords p) where
   read_text (DraftSaid n slots) (fits, is) =
       ap (λ o. o >>= said_draft) (read_spelled p rules words (spelled_text p (FireLine 0 n true slots)) (FireLine 0 n true slots) (fits, refl))
   read_text GoSaid said = refl
+  read_text ResumeSaid said = refl
   read_text (TickSaid states) (size, is) =
       then_next (places_at p.plants (places_text p.plants states)) (λ m. at_end (TickSaid m.0) m.1) (states, []) (read_places p.plants states size)
 

@@ -1,8 +1,11 @@
 -- Worked lines of the running example, written out by hand.
-use Rattle.std.specs.Prelude.{◌≡◌, pos, negsuc, [], ◌∷◌, codes}
+use Rattle.std.specs.Prelude.{◌≡◌, ℕ, pos, negsuc, List, [], ◌∷◌, codes}
 use Rattle.std.specs.Global.{Global}
 use Rattle.sot_lang.specs.Line.{line}
+use Rattle.sot_lang.specs.Tables.{Tables}
 use Rattle.sot_guard_lines.specs.Lines.{hold_line, ready_line, outside_line, end_line}
+use Rattle.sot_guard_lines.specs.Lines.{resumed_line, refused_resume_line}
+use Rattle.sot_guard_lines.specs.Sayings.{Saying, ResumeSaid, IsSaid}
 
 -- its one plant takes its one command
 abbrev pub HeldByACommand : Global → Type 0
@@ -21,5 +24,24 @@ OutsideItsInterval g =
 
 abbrev pub OtherLines : Type 0
 OtherLines =
-    (ready_line 0 ≡ codes "0 ready") × (ready_line 99999 ≡ codes "99999 ready")
+    (ready_line 0 ≡ codes "0 ready")
+    × (ready_line 4294967299 ≡ codes "4294967299 ready")
     × (end_line 20 61 ≡ codes "end 20 events 61")
+
+abbrev pub SaysNothing : Tables → List ℕ → Type 0
+SaysNothing p line = (s : Saying) → IsSaid p line s → ⊥
+
+-- `resume` is a line by itself, of any program: no other line that begins so says anything
+abbrev pub ResumesAlone : Tables → Type 0
+ResumesAlone p =
+    IsSaid p (codes "resume") ResumeSaid
+    × SaysNothing p (codes "resume now") × SaysNothing p (codes "resume ")
+    × SaysNothing p (codes "resumed") × SaysNothing p (codes "resum")
+    × SaysNothing p (codes " resume") × SaysNothing p (codes "Resume")
+
+-- how it is answered; the one module of the running example is called `nav`
+abbrev pub AnswersToResume : Global → Type 0
+AnswersToResume g =
+    (resumed_line 31 ≡ codes "31 resumed")
+    × (resumed_line 4294967299 ≡ codes "4294967299 resumed")
+    × (refused_resume_line (line g) 31 0 ≡ codes "31 refused resume module nav")

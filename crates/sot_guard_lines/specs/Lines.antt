@@ -4,7 +4,7 @@ use Rattle.std.specs.Option.{option_map_or}
 use Rattle.sot_box.specs.Sides.{Side}
 use Rattle.sot_lang.specs.declared.tables.PlantInfo.{PlantInfo}
 use Rattle.sot_lang.specs.Tables.{Tables}
-use Rattle.sot_lang.specs.Names.{plant_name}
+use Rattle.sot_lang.specs.Names.{plant_name, module_name}
 use Rattle.sot_trace.specs.Names.{scalar_name}
 use Rattle.sot_trace.specs.Numbers.{numeral, signed_numeral}
 
@@ -55,6 +55,16 @@ abbrev pub outside_line : Tables → ℕ → ℕ → ℕ → Side → ℤ → Li
 outside_line p time plant state r z =
     numeral time ++ (codes " outside plant " ++ (plant_name p plant
     ++ (codes " state " ++ (state_name p plant state ++ observed_text r z))))
+
+-- `T resumed`: the models are trusted again
+abbrev pub resumed_line : ℕ → List ℕ
+resumed_line time = numeral time ++ codes " resumed"
+
+-- `T refused resume module NAME`: the models are not trusted again, since of this module the
+-- commands in force do not hold the plant safe
+abbrev pub refused_resume_line : Tables → ℕ → ℕ → List ℕ
+refused_resume_line p time m =
+    numeral time ++ (codes " refused resume module " ++ module_name p m)
 
 -- `end T events E`
 abbrev pub end_line : ℕ → ℕ → List ℕ

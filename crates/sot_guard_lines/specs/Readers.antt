@@ -10,6 +10,7 @@ use Rattle.sot_trace_lines.specs.Pieces.{◌>>=◌, behind, at_end, row_at}
 use Rattle.sot_trace_lines.specs.Readers.{word_at, place_of, input_at, fire_at, move_front}
 use Rattle.sot_guard_lines.specs.declared.said.Said.{Said}
 use Rattle.sot_guard_lines.specs.Sayings.{Saying, StartSaid, InputSaid, DraftSaid, GoSaid, TickSaid}
+use Rattle.sot_guard_lines.specs.Sayings.{ResumeSaid}
 use Rattle.sot_guard_lines.specs.Shown.{ShowsSaid}
 
 -- an input, as a trace tells it
@@ -70,11 +71,17 @@ tick_said_at p text = places_at p.plants text >>= λ m. at_end (TickSaid m.0) m.
 abbrev pub go_said_at : List ℕ → Option Saying
 go_said_at text = at_end GoSaid text
 
+abbrev pub resume_said_at : List ℕ → Option Saying
+resume_said_at text = at_end ResumeSaid text
+
 -- what a line says, without those kinds of lines that stand before in this list
-abbrev pub behind_draft : Tables → List ℕ → Option Saying
-behind_draft p line =
-    option_map_or go_said_at (behind (codes "go") line)
+abbrev pub behind_go : Tables → List ℕ → Option Saying
+behind_go p line =
+    option_map_or resume_said_at (behind (codes "resume") line)
     (option_map_or (start_said_at p) (behind (codes "start ") line) None)
+
+abbrev pub behind_draft : Tables → List ℕ → Option Saying
+behind_draft p line = option_map_or go_said_at (behind (codes "go") line) (behind_go p line)
 
 abbrev pub behind_input : Tables → List ℕ → Option Saying
 behind_input p line =

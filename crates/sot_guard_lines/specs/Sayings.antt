@@ -1,5 +1,5 @@
 -- What the lines of a robot say: where its plants were observed, what came from outside, what its
--- own controllers draft, and that an instant is over.
+-- own controllers draft, that an instant is over, and that the models are to be trusted again.
 use Rattle.std.specs.Prelude.{ℕ, ◌<◌, ◌≡◌, ℤ, Bool, true, List, [], ◌∷◌, ◌++◌, Option}
 use Rattle.std.specs.Prelude.{length, codes, take, drop, slice_get}
 use Rattle.std.specs.Option.{option_map_or}
@@ -15,12 +15,14 @@ use Rattle.sot_trace_lines.specs.Spelled.{marks_text}
 
 -- the first state of a plant; a value that came on an environment topic; what an external node
 -- drafts, with a mark and a number or nothing for each scalar that it writes; that this was all of
--- an instant; the states of all plants after a tick. Numbers have any size
+-- an instant; that the models are to be trusted again; the states of all plants after a tick.
+-- Numbers have any size
 pub data Saying : Type 0 where
   StartSaid : (plant : ℕ) (point : List ℤ) → Saying
   InputSaid : (topic : ℕ) (value : List ℤ) → Saying
   DraftSaid : (node : ℕ) (slots : List (Option (Bool × ℤ))) → Saying
   GoSaid : Saying
+  ResumeSaid : Saying
   TickSaid : (states : List ℤ) → Saying
 
 -- `PLANT(X,..)`, behind a blank
@@ -43,6 +45,7 @@ said_text p (InputSaid topic value) =
 said_text p (DraftSaid node slots) =
     codes "draft " ++ (node_name p node ++ marks_text p (writes_of p node) slots)
 said_text p GoSaid = codes "go"
+said_text p ResumeSaid = codes "resume"
 said_text p (TickSaid states) = codes "tick" ++ places_text p.plants states
 
 -- a line names what is there and of the right sort, and has as many numbers as this has
@@ -55,6 +58,7 @@ FitsSaying p (InputSaid topic value) =
 FitsSaying p (DraftSaid node slots) =
     (node < length p.nodes) × (length slots ≡ length (writes_of p node))
 FitsSaying p GoSaid = Unit {0}
+FitsSaying p ResumeSaid = Unit {0}
 FitsSaying p (TickSaid states) = length states ≡ state_count p.plants
 
 -- a line says this

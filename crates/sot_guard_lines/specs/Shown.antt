@@ -6,8 +6,9 @@ use Rattle.sot_trace.specs.Words.{AreWords}
 use Rattle.sot_trace_lines.specs.Shown.{Holds, ShowsDraft}
 use Rattle.sot_guard_lines.specs.declared.said.Said.{Said}
 use Rattle.sot_guard_lines.specs.declared.said.Said.TheVariants.{Start, Input, Draft, Go, Tick}
+use Rattle.sot_guard_lines.specs.declared.said.Said.TheVariants.{Resume}
 use Rattle.sot_guard_lines.specs.Sayings.{Saying, StartSaid, InputSaid, DraftSaid, GoSaid, TickSaid}
-use Rattle.sot_guard_lines.specs.Sayings.{IsSaid}
+use Rattle.sot_guard_lines.specs.Sayings.{ResumeSaid, IsSaid}
 
 -- what is looked at of a line that says s; the numbers of a start, of an input and of a tick stand
 -- in the list
@@ -19,6 +20,7 @@ ShowsSaid (Input topic whole) list s =
 ShowsSaid (Draft node draft) list s =
     (slots : List (Option (Bool × ℤ))) × (s ≡ DraftSaid node slots) × ShowsDraft draft slots
 ShowsSaid Go list s = s ≡ GoSaid
+ShowsSaid Resume list s = s ≡ ResumeSaid
 ShowsSaid (Tick whole) list s =
     (states : List ℤ) × (s ≡ TickSaid states) × Holds whole list states
 

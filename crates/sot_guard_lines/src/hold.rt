@@ -33,7 +33,7 @@ fn put_all_held<O: Out>(out: &mut O, p: &Typed, inputs: &[u32], scalars: &[i64])
 /// The commands that hold a plant at a time: each of its inputs by its scalar's name, in the order
 /// in which the plant takes them, with the number that the scalar has. Times are in ticks, numbers
 /// are mantissas.
-pub fn put_hold<O: Out>(out: &mut O, p: &Typed, time: u32, plant: u32, scalars: &[i64])
+pub fn put_hold<O: Out>(out: &mut O, p: &Typed, time: u64, plant: u32, scalars: &[i64])
     requires plant { plant < length p.now.plants }
     requires scalars { length scalars.now ≡ length p.now.scalars }
     ensures { O.puts out.old out.new (hold_line p.now time plant scalars.now) }

@@ -6,6 +6,7 @@ ghost use Rattle.sot_lang.specs.declared.tables.PlantInfo.{PlantInfo as Plant};
 ghost use Rattle.sot_guard_lines.specs.Shown.{AnswersSaid};
 ghost use Rattle.sot_guard_lines.specs.Readers.{start_of, start_said_at, input_said_at};
 ghost use Rattle.sot_guard_lines.specs.Readers.{draft_said_at, tick_said_at, go_said_at, said_at};
+ghost use Rattle.sot_guard_lines.specs.Readers.{resume_said_at};
 ghost use Rattle.sot_guard_lines.specs.Readers.{said_input, said_draft, ShowsReadSaid};
 ghost use Rattle.sot_guard_lines.specs.Room.{said_room, HasRoom};
 ghost use Rattle.sot_trace_lines.specs.Spelled.{Spelled};
@@ -143,6 +144,16 @@ fn read_go(text: &[u8]) -> Option<Said>
     }
 }
 
+fn read_resume(text: &[u8]) -> Option<Said>
+    ensures { (list : List ℤ) → ShowsReadSaid list result (resume_said_at text.now) }
+{
+    if text.is_empty() {
+        Some(Said::Resume)
+    } else {
+        None
+    }
+}
+
 fn read(p: &Typed, line: &[u8], numbers: &mut Vec<i64>) -> Option<Said>
     requires none { numbers.old.items ≡ [] }
     requires room { HasRoom (said_room p.now) numbers.old }
@@ -160,6 +171,9 @@ fn read(p: &Typed, line: &[u8], numbers: &mut Vec<i64>) -> Option<Said>
     }
     if let Some(rest) = behind(line, b"go") {
         return read_go(rest);
+    }
+    if let Some(rest) = behind(line, b"resume") {
+        return read_resume(rest);
     }
     if let Some(rest) = behind(line, b"start ") {
         return read_start(p, rest, numbers);

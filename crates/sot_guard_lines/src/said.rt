@@ -16,6 +16,8 @@ pub enum Said {
     Draft { node: u32, draft: Option<NodeDraft> },
     /// That was all of this instant.
     Go,
+    /// The models are to be trusted again.
+    Resume,
     /// The states of all plants after a tick, which stand in the list, one plant after another in
     /// declared order, where each of their numbers has 64 bits.
     Tick { whole: bool },

@@ -10,7 +10,7 @@ use sot_text_output::Out;
 use sot_trace::{put_count, put_name, put_number, put_time};
 
 /// That an instant was gone through: the tick may come.
-pub fn put_ready<O: Out>(out: &mut O, time: u32)
+pub fn put_ready<O: Out>(out: &mut O, time: u64)
     ensures { O.puts out.old out.new (ready_line time) }
 {
     put_time(out, time);
@@ -70,7 +70,7 @@ fn put_observed<O: Out>(out: &mut O, bounds: Interval, value: i64)
 pub fn put_outside<O: Out>(
     out: &mut O,
     p: &Typed,
-    time: u32,
+    time: u64,
     plant: u32,
     state: u32,
     bounds: Interval,
@@ -87,7 +87,7 @@ pub fn put_outside<O: Out>(
 }
 
 /// The last line: the time that was reached, and how many events there were.
-pub fn put_end<O: Out>(out: &mut O, time: u32, events: usize)
+pub fn put_end<O: Out>(out: &mut O, time: u64, events: usize)
     ensures { O.puts out.old out.new (end_line time events) }
 {
     out.put("end ");

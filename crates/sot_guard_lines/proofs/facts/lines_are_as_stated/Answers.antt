@@ -1,4 +1,5 @@
 use Rattle.std.proofs.Common.{refl}
+use Rattle.sot_guard_lines.proofs.Resuming.{resumes_alone}
 use Rattle.sot_guard_lines.proofs.facts.lines_are_as_stated.Goals as goal
 
 pub returns-clause-hold : goal.returns-clause-hold
@@ -9,3 +10,9 @@ returns-clause-outside c g = (refl, refl)
 
 pub returns-clause-others : goal.returns-clause-others
 returns-clause-others c = (refl, refl, refl)
+
+pub returns-clause-resume : goal.returns-clause-resume
+returns-clause-resume c p = resumes_alone p
+
+pub returns-clause-resumed : goal.returns-clause-resumed
+returns-clause-resumed c g = (refl, refl, refl)
