@@ -214,7 +214,16 @@ def about_regions(asked):
     writes = [name for topic in node.writes for name in (missiontext.scalar_name(asked.tables().topics[topic], field) for field in asked.tables().topics[topic].fields)]
     silent = [name for name in writes if name not in surely]
     lines = [f'`{node.name}` does not always publish `{name}`: where it drafts nothing, the last command stays, and that is taken to be any of its type; give each `if` an `else` that publishes' for name in silent[:1]]
-    return lines + ([] if asked.answer.endswith('TooMany') else [LOOKS])
+    return lines + coarse(asked.answer) + ([] if asked.answer.endswith('TooMany') else [LOOKS])
+
+
+def coarse(answer):
+    """That a search went in steps above one unit, where it did."""
+    grain = re.search(r'safe none grain \(([^)]*)\)', answer)
+    if not grain or max(whole_numbers(f'({grain[1]})')) < 2:
+        return []
+    return [f'the search went in steps of ({grain[1]}) units, and what they round off counts as a disturbance: state variables with fewer decimals are searched in smaller steps; let a `noise` hold what their '
+            'rounding leaves out']
 
 
 def about_replay(asked):
