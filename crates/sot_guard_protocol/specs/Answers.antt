@@ -14,6 +14,7 @@ use Rattle.sot_guard.specs.declared.outside.Outside.{Outside}
 use Rattle.sot_guard.specs.declared.told.Told.{Told}
 use Rattle.sot_guard.specs.declared.told.Told.TheVariants.{Decided, Fired}
 use Rattle.sot_guard_lines.specs.Lines.{hold_line, ready_line, outside_line}
+use Rattle.sot_guard_lines.specs.Lines.{resumed_line, refused_resume_line}
 use Rattle.sot_guard_protocol.specs.declared.aside.Aside.{Aside}
 use Rattle.sot_guard_protocol.specs.declared.aside.Aside.TheVariants as aside
 
@@ -44,6 +45,12 @@ outside_lines p time None = []
 outside_lines p time (Some o) =
     outside_line p time o.plant o.state o.bounds o.value ∷ []
 
+-- the line of a `resume` that is taken: the models are trusted again, or a module keeps them from
+-- being
+abbrev pub resume_line : Tables → ℕ → Option ℕ → List ℕ
+resume_line p time None = resumed_line time
+resume_line p time (Some m) = refused_resume_line p time m
+
 -- why a line is not taken
 abbrev pub misheard_word : Misheard → List ℕ
 misheard_word misheard.OutOfTurn = codes "OutOfTurn"
@@ -52,12 +59,15 @@ misheard_word misheard.NotDue = codes "NotDue"
 misheard_word misheard.AlreadyDrafted = codes "AlreadyDrafted"
 misheard_word misheard.OutsideType = codes "OutsideType"
 misheard_word misheard.TooFar = codes "TooFar"
+misheard_word misheard.NotSeen = codes "NotSeen"
 
 abbrev pub aside_word : Aside → List ℕ
 aside_word aside.Draft = codes "draft"
 aside_word aside.Input = codes "input"
+aside_word aside.Resume = codes "resume"
 
--- `T ignored draft KIND` and `T ignored input KIND`: a draft or an input that is not taken
+-- `T ignored draft KIND`, `T ignored input KIND` and `T ignored resume KIND`: such a line is not
+-- taken
 abbrev pub ignored_line : ℕ → Aside → Misheard → List ℕ
 ignored_line time a why =
     numeral time

@@ -8,7 +8,7 @@ use Rattle.sot_guard.specs.declared.misheard.Misheard.{Misheard}
 use Rattle.sot_guard.specs.declared.misheard.Misheard.TheVariants.{OutOfTurn, TooFar}
 use Rattle.sot_guard.specs.declared.misheard.Misheard.TheVariants.{NotALine, NotDue}
 use Rattle.sot_guard.specs.declared.misheard.Misheard.TheVariants.{AlreadyDrafted}
-use Rattle.sot_guard.specs.declared.misheard.Misheard.TheVariants.{OutsideType}
+use Rattle.sot_guard.specs.declared.misheard.Misheard.TheVariants.{OutsideType, NotSeen}
 use Rattle.sot_guard_lines.specs.Sayings.{Saying, StartSaid, IsSaid}
 use Rattle.sot_guard_protocol.specs.Talks.{HasLarge}
 
@@ -43,6 +43,7 @@ RefusesStart a s TooFar = ⊥
 RefusesStart a s NotALine = ⊥
 RefusesStart a s NotDue = ⊥
 RefusesStart a s AlreadyDrafted = ⊥
+RefusesStart a s NotSeen = ⊥
 RefusesStart a s OutsideType = (point : List ℤ) × IsNextStart a s point × HasLarge point
 
 -- where the next plant was observed is kept; or nothing changes

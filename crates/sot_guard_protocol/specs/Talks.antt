@@ -2,7 +2,7 @@
 -- why a line is not taken.
 use Rattle.std.specs.Prelude.{ℕ, ◌+◌, ◌-◌, ◌^◌, ◌≤◌, ◌≡◌, ◌⊎◌, ℤ, Bool, List, [], ◌∷◌}
 use Rattle.std.specs.Prelude.{Option, None, Some, Result, codes}
-use Rattle.std.specs.Prelude.{MatchResult, map, min, length}
+use Rattle.std.specs.Prelude.{MatchResult, MatchOption, map, min, length}
 use Rattle.std.specs.Option.{option_map}
 use Rattle.sot_lists.specs.Places.{Has}
 use Rattle.sot_lang.specs.Tables.{Tables}
@@ -21,13 +21,16 @@ use Rattle.sot_guard.specs.declared.misheard.Misheard.TheVariants.{OutsideType}
 use Rattle.sot_guard.specs.Hearing.{Hearing, program_of, TakesInput, TakesDraft}
 use Rattle.sot_guard.specs.Hearing.{GoesThrough, TakesTick, RefusesInput, RefusesDraft}
 use Rattle.sot_guard.specs.Hearing.{RefusesGo, RefusesTick, IsWithdrawn, PassesUnseen}
+use Rattle.sot_guard.specs.Hearing.{Resumes, MayNotResume, RefusesResume}
+use Rattle.sot_guard.specs.Guarding.{last_time}
 use Rattle.sot_guard_lines.specs.Sayings.{Saying, StartSaid, InputSaid, DraftSaid, GoSaid, TickSaid}
-use Rattle.sot_guard_lines.specs.Sayings.{IsSaid}
+use Rattle.sot_guard_lines.specs.Sayings.{ResumeSaid, IsSaid}
 use Rattle.sot_guard_protocol.specs.declared.heard.Heard.{Heard}
 use Rattle.sot_guard_protocol.specs.declared.heard.Heard.TheVariants as heard
 use Rattle.sot_guard_protocol.specs.declared.aside.Aside.{Aside}
 use Rattle.sot_guard_protocol.specs.Asides.{aside_of}
 use Rattle.sot_guard_protocol.specs.Answers.{instant_lines, outside_lines, ignored_line, blind_line}
+use Rattle.sot_guard_protocol.specs.Answers.{resume_line}
 
 -- a session, and how many events there were so far: inputs, decisions, firings and ticks
 pub record Talking : Type 0 where
@@ -52,6 +55,11 @@ counted n more = min (n + more) (2 ^ 64 - 1)
 abbrev pub draft_of : List (Option (Bool × ℤ)) → List (Option ℤ)
 draft_of slots = in_slots (map (option_map (λ slot. slot.1)) slots)
 
+-- the models are trusted again; or they are not, since of this module, the first one, the plant
+-- would not be held safe, and nothing changes
+abbrev pub AnswersResume : Hearing → Option ℕ → Hearing → Type 0
+AnswersResume h m k = MatchOption m (Resumes h k) (λ m. (k ≡ h) × MayNotResume h m)
+
 -- what is said is taken: what that changes, and the lines that it is answered with
 abbrev pub Takes : Talking → Saying → Heard → List (List ℕ) → Talking → Type 0
 Takes t (StartSaid plant point) h lines u = ⊥
@@ -66,6 +74,9 @@ Takes t GoSaid h lines u =
     (h ≡ heard.Go) × GoesThrough t.hearing u.hearing
     × (u.events ≡ counted t.events (length u.hearing.told))
     × (lines ≡ instant_lines (tables_of u) (time_of u) (scalars_of u) u.hearing.told)
+Takes t ResumeSaid h lines u =
+    (m : Option ℕ) × (h ≡ heard.Resume) × AnswersResume t.hearing m u.hearing
+    × (u.events ≡ t.events) × (lines ≡ resume_line (tables_of u) (time_of u) m ∷ [])
 Takes t (TickSaid states) h lines u =
     (outside : Option Outside) × (h ≡ heard.Tick)
     × TakesTick t.hearing (points_in (tables_of t).plants states) outside u.hearing
@@ -96,6 +107,7 @@ Refuses h (InputSaid topic value) why =
 Refuses h (DraftSaid node slots) why =
     RefusesDraft h node why ⊎ (IsTooLarge h Instant why × HasLargeSlot slots)
 Refuses h GoSaid why = RefusesGo h why
+Refuses h ResumeSaid why = RefusesResume h why
 Refuses h (TickSaid states) why =
     RefusesTick h (points_in (program_of h).plants states) why
     ⊎ (IsTooLarge h Tick why × HasLarge states)
@@ -119,7 +131,7 @@ pub record TakesLine (t : Talking) (line : List ℕ) (h : Heard) (answer : List 
   pub said : IsSaid (tables_of t) line saying
   pub takes : Takes t saying h answer u
 
--- a draft or an input is not taken: nothing changes, and that is told
+-- a draft, an input or a resume is not taken: nothing changes, and that is told
 pub record Ignores (t : Talking) (line : List ℕ) (h : Heard) (answer : List (List ℕ))
     (u : Talking) : Type 0 where
   pub aside : Aside
@@ -170,4 +182,4 @@ Hears t line h u puts =
 
 -- nothing is said any more: the last instant was gone through
 abbrev pub IsOver : Talking → Type 0
-IsOver t = (t.hearing.turn ≡ Tick) × (100000 ≤ time_of t)
+IsOver t = (t.hearing.turn ≡ Tick) × (last_time ≤ time_of t)

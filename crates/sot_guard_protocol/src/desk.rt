@@ -7,7 +7,7 @@ ghost use Rattle.sot_trace_lines.specs.Shown.{Holds, ShowsDraft};
 ghost use Rattle.sot_board.specs.Counts.{state_count};
 ghost use Rattle.sot_guard.specs.Hearing.{Hearing, program_of};
 ghost use Rattle.sot_guard_lines.specs.Sayings.{Saying, InputSaid, DraftSaid, GoSaid, TickSaid};
-ghost use Rattle.sot_guard_lines.specs.Sayings.{FitsSaying};
+ghost use Rattle.sot_guard_lines.specs.Sayings.{ResumeSaid, FitsSaying};
 ghost use Rattle.sot_guard_lines.specs.Shown.{ShowsSaid};
 ghost use Rattle.sot_guard_protocol.specs.Asides.{aside_of};
 ghost use Rattle.sot_guard_protocol.specs.Answers.{blind_line};
@@ -15,13 +15,14 @@ ghost use Rattle.sot_guard_protocol.specs.Talks.{tables_of, draft_of, counted, A
 ghost use Rattle.sot_guard_protocol.specs.Talks.{RefusesLarge};
 ghost use Rattle.sot_guard_protocol.specs.Talks.{time_of, Mishears, Hears, LosesSight, GoesOnBlind};
 ghost use Rattle.sot_guard_protocol.specs.Talks.{IsOver};
+ghost use Rattle.sot_guard.specs.Guarding.{last_time};
 ghost use Rattle.sot_guard.specs.Hearing.{PassesUnseen};
 ghost use Rattle.sot_guard.specs.declared.turn.SessionEvent.TheVariants.{Instant, Tick};
 ghost use Rattle.sot_trace.specs.Traces.{text_of};
 
 use crate::aside::{Aside, aside_of, is_go};
 use crate::heard::Heard;
-use crate::put::{put_blind, put_ignored, put_instant, put_value, put_where_outside};
+use crate::put::{put_blind, put_ignored, put_instant, put_resume, put_value, put_where_outside};
 use sot_box::Point;
 use sot_guard::{Misheard, Session, SessionEvent};
 use sot_guard_lines::Said;
@@ -143,6 +144,18 @@ impl<'a> SessionDesk<'a> {
         Ok(Heard::Go)
     }
 
+    fn resume<O: Out>(&mut self, out: &mut O) -> Result<Heard, Misheard>
+        ensures { Answers self.old ResumeSaid self.new (O.puts out.old out.new) result }
+    {
+        let refused = match self.session.resume() {
+            Ok(refused) => refused,
+            Err(why) => return Err(why),
+        };
+        let guard = self.session.guard();
+        put_resume(out, guard.typed(), guard.time(), refused);
+        Ok(Heard::Resume)
+    }
+
     fn tick<O: Out>(&mut self, states: &[i64], out: &mut O) -> Result<Heard, Misheard>
         requires { length states.now ≡ state_count (tables_of self.old).plants }
         ensures { Answers self.old (TickSaid states.now) self.new (O.puts out.old out.new) result }
@@ -225,11 +238,12 @@ impl<'a> SessionDesk<'a> {
             Said::Input { topic, whole } => self.take_input(topic, whole, numbers, out),
             Said::Draft { node, draft } => self.take_draft(node, draft, out),
             Said::Go => self.go(out),
+            Said::Resume => self.resume(out),
             Said::Tick { whole } => self.take_tick(whole, numbers, out),
         }
     }
 
-    // A draft or an input is not taken, which is told.
+    // A draft, an input or a resume is not taken, which is told.
     fn ignore<O: Out>(&mut self, line: &[u8], aside: Aside, why: Misheard, out: &mut O) -> Heard
         requires is { aside_of line.now ≡ Some aside }
         requires misheard { Mishears self.old line.now why }
@@ -242,7 +256,7 @@ impl<'a> SessionDesk<'a> {
     // A tick passes unseen.
     fn pass_unseen(&mut self)
         requires turn { self.old.hearing.turn ≡ Tick }
-        requires time { time_of self.old < 100000 }
+        requires time { time_of self.old < last_time }
         ensures passes { PassesUnseen self.old.hearing self.new.hearing }
         ensures events { self.new.events ≡ counted self.old.events 1 }
     {
@@ -276,7 +290,7 @@ impl<'a> SessionDesk<'a> {
         }
     }
 
-    // A line is not taken that is no draft and no input.
+    // A line is not taken that is no draft, no input and no resume.
     fn go_blind<O: Out>(&mut self, line: &[u8], why: Misheard, out: &mut O) -> Heard
         requires going { IsOver self.old → ⊥ }
         requires none { aside_of line.now ≡ None }
@@ -289,8 +303,8 @@ impl<'a> SessionDesk<'a> {
         Heard::Blind
     }
 
-    /// A line is not taken: a draft or an input is ignored, and after any other line the models are
-    /// trusted no more.
+    /// A line is not taken: a draft, an input or a resume is ignored, and after any other line the
+    /// models are trusted no more.
     pub(crate) fn mishear<O: Out>(&mut self, line: &[u8], why: Misheard, out: &mut O) -> Heard
         requires going { IsOver self.old → ⊥ }
         requires misheard { Mishears self.old line.now why }

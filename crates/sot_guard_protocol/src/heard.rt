@@ -9,9 +9,12 @@ pub enum Heard {
     Draft,
     /// The end of an instant, which was gone through.
     Go,
+    /// That the models are to be trusted again: they are, or a module is named that keeps them from
+    /// being, and nothing changes.
+    Resume,
     /// The states of all plants after a tick.
     Tick,
-    /// A draft or an input that is not taken, which changes nothing.
+    /// A draft, an input or a resume that is not taken, which changes nothing.
     Ignored,
     /// Another line that is not taken: the models are trusted no more.
     Blind,

@@ -15,7 +15,7 @@ mod talk;
 
 pub use aside::Aside;
 pub use heard::Heard;
-pub use laws::{trusted_talks_are_observed, trusted_talks_are_safe};
+pub use laws::{trust_comes_back_by_a_resume, trusted_talks_are_observed, trusted_talks_are_safe};
 pub use opening::TalkOpening;
 pub use put::misheard_word;
 pub use talk::Talk;

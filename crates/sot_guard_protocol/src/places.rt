@@ -126,6 +126,7 @@ impl<'a> Places<'a> {
             Said::Input { .. } => Err(Misheard::OutOfTurn),
             Said::Draft { .. } => Err(Misheard::OutOfTurn),
             Said::Go => Err(Misheard::OutOfTurn),
+            Said::Resume => Err(Misheard::OutOfTurn),
             Said::Tick { .. } => Err(Misheard::OutOfTurn),
         }
     }

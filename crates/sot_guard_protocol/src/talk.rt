@@ -1,9 +1,10 @@
 //! A talk with a robot.
 
 ghost use Rattle.std.specs.Prelude.{◌≡◌, ◌∷◌, [], ◌↔◌, ℕ, List, true, IsTrue, IfOk, IfErr, OnErr};
+ghost use Rattle.std.specs.Prelude.{IsErrOf};
 ghost use Rattle.sot_trace.specs.Traces.{text_of};
-ghost use Rattle.sot_world.specs.Configurations.{IsOpening, IsSafer};
-ghost use Rattle.sot_world.specs.Opens.{IsFirstOutside, IfNotSafer};
+ghost use Rattle.sot_world.specs.Configurations.{IsOpening};
+ghost use Rattle.sot_guard.specs.Resuming.{AreHeldSafe, AtOpening, IsStartUnsafe, IfNotHeld};
 ghost use Rattle.sot_guard.specs.Hearing.{NoDrafts};
 ghost use Rattle.sot_guard.specs.declared.turn.SessionEvent.TheVariants.{Instant};
 ghost use Rattle.sot_guard_lines.specs.Lines.{end_line};
@@ -13,10 +14,9 @@ ghost use Rattle.sot_guard_protocol.specs.Openings.{HasAll};
 use crate::desk::SessionDesk;
 use crate::heard::Heard;
 use crate::opening::TalkOpening;
-use sot_guard::{Misheard, Session, SessionEvent};
+use sot_guard::{BeginFail, LAST_TIME, Misheard, Session, SessionEvent};
 use sot_guard_lines::{put_end, read_said};
 use sot_text_output::Out;
-use sot_world::OpenFail;
 use std::alloc::Global;
 use std::marker::Model;
 
@@ -47,21 +47,27 @@ impl<'a> Model for Talk<'a> {
 
 impl<'a> Talk<'a> {
     /// The talk about plants that were all observed. It takes all memory that it will ever need.
-    /// `NotSafer` names the first module whose plant was observed outside the module's safer
-    /// region.
-    pub fn begin(alloc: Global, opening: TalkOpening<'a>) -> Result<Talk<'a>, OpenFail>
+    /// `NotHeldSafe` names the first module whose plant the first commands do not hold safe until
+    /// the module's safe node fires; `Memory` comes only where each plant is held safe.
+    pub fn begin(alloc: Global, opening: TalkOpening<'a>) -> Result<Talk<'a>, BeginFail>
         requires { HasAll opening }
         ensures opening { IfOk result (λ t.
             IsOpening opening.entry.accepted.program opening.entry.starts t.hearing.guarding.at) }
-        ensures safer { IfOk result (λ t.
-            IsSafer opening.entry.accepted.program t.hearing.guarding.at) }
+        ensures held { IfOk result (λ t. AreHeldSafe opening.entry.accepted.program
+            opening.entry.accepted.cert.jitter t.hearing.guarding.at) }
         ensures trusted { IfOk result (λ t. t.hearing.guarding.trusted ≡ true) }
         ensures accepted { IfOk result (λ t. t.hearing.guarding.accepted ≡ opening.entry.accepted) }
         ensures turn { IfOk result (λ t. t.hearing.turn ≡ Instant) }
+        ensures seen { IfOk result (λ t. t.hearing.seen ≡ true) }
         ensures no_drafts { IfOk result (λ t. NoDrafts t.hearing) }
         ensures no_events { IfOk result (λ t. t.events ≡ 0) }
-        ensures not_safer { IfErr result (λ f. IfNotSafer f (λ m.
-            IsFirstOutside opening.entry.accepted.program opening.entry.starts m)) }
+        ensures not_held { IfErr result (λ f. IfNotHeld f (λ m.
+            IsStartUnsafe opening.entry.accepted.program opening.entry.accepted.cert.jitter
+            opening.entry.starts m)) }
+        ensures memory { IsErrOf result BeginFail.Memory
+            → AtOpening opening.entry.accepted.program opening.entry.starts
+            (λ C. AreHeldSafe opening.entry.accepted.program opening.entry.accepted.cert.jitter
+            C) }
     {
         let acc = opening.accepted();
         let lists = opening.into_lists();
@@ -92,9 +98,9 @@ impl<'a> Talk<'a> {
     }
 
     /// Hears a line of the robot, without its line end, and puts the lines that it is answered
-    /// with, each with a line end (LF). No line ends the talk: a draft or an input that is not
-    /// taken is `Ignored` and changes nothing, and after any other line that is not taken the
-    /// models are trusted no more (`Blind`).
+    /// with, each with a line end (LF). No line ends the talk: a draft, an input or a resume that
+    /// is not taken is `Ignored` and changes nothing, and after any other line that is not taken
+    /// the models are trusted no more (`Blind`).
     pub fn hear<O: Out>(&mut self, line: &[u8], out: &mut O) -> Heard
         requires going { IsOver self.old → ⊥ }
         ensures { Hears self.old line.now result self.new (O.puts out.old out.new) }
@@ -105,18 +111,18 @@ impl<'a> Talk<'a> {
         }
     }
 
-    /// Whether nothing may come any more: the instant of time 100,000 was gone through.
+    /// Whether nothing may come any more: the instant of time 10^12 was gone through.
     pub fn is_over(&self) -> bool
         ensures { IsTrue result ↔ IsOver self.now }
     {
         let session = self.desk.session();
         match session.turn() {
             SessionEvent::Instant => false,
-            SessionEvent::Tick => session.guard().time() >= 100_000,
+            SessionEvent::Tick => session.guard().time() >= LAST_TIME,
         }
     }
 
-    /// Whether no plant was told to be outside its model so far.
+    /// Whether the models are trusted now.
     pub fn trusted(&self) -> bool
         ensures { result ≡ self.now.hearing.guarding.trusted }
     {
