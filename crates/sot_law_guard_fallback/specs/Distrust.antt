@@ -1,7 +1,7 @@
--- What a talk keeps to whatever is said, and where its models are no longer trusted: a plant was told
--- to be outside, or a line could not be taken.
+-- What a talk keeps to whatever is said, and where its models are not trusted: a plant was told to be
+-- outside, or a line could not be taken, and no `resume` was answered `resumed` since then.
 use Rattle.std.specs.Prelude.{ℕ, ℤ, Bool, true, false, not, ◌||◌, ◌==◌, ◌≡◌, ◌≢◌, List, [], ◌∷◌}
-use Rattle.std.specs.Prelude.{Some, ◌⊎◌}
+use Rattle.std.specs.Prelude.{Some, codes, ◌⊎◌}
 use Rattle.sot_lists.specs.Places.{At}
 use Rattle.sot_lang.specs.declared.tables.ModuleInfo.{ModuleInfo}
 use Rattle.sot_lang.specs.Tables.{Tables}
@@ -13,12 +13,15 @@ use Rattle.sot_guard.specs.declared.outside.Outside.{Outside}
 use Rattle.sot_guard.specs.declared.told.Told.{Told}
 use Rattle.sot_guard.specs.declared.told.Told.TheVariants.{Decided, Fired}
 use Rattle.sot_guard.specs.Outside.{IsFirstOutside}
+use Rattle.sot_guard.specs.Hearing.{Resumes}
+use Rattle.sot_guard_lines.specs.Lines.{resumed_line}
 use Rattle.sot_guard_protocol.specs.declared.heard.Heard.TheVariants.{Go, Tick, Ignored, Blind}
 use Rattle.sot_guard_protocol.specs.declared.aside.Aside.{Aside}
+use Rattle.sot_guard_protocol.specs.declared.aside.Aside.TheVariants.{Resume}
 use Rattle.sot_guard_protocol.specs.Asides.{aside_of}
 use Rattle.sot_guard_protocol.specs.Answers.{instant_lines, outside_lines}
 use Rattle.sot_guard_protocol.specs.Talks.{Talking, tables_of, time_of, scalars_of}
-use Rattle.sot_guard_protocol.specs.TalkLaws.{HearsLine, HearsLines}
+use Rattle.sot_guard_protocol.specs.TalkLaws.{HearsLine, HearsLines, IsTrustedSince, EndsResumed}
 
 abbrev pub is_trusted : Talking → Bool
 is_trusted t = t.hearing.guarding.trusted
@@ -53,11 +56,25 @@ put_by_others p (Fired n firing ∷ es) xs =
     put_by_others p es
     (published (not (is_advanced p.modules n)) p (writes_of p n) firing.draft xs)
 
--- once the models are not trusted, they are not trusted again
-abbrev pub DistrustIsForGood : Type 0
-DistrustIsForGood =
+-- once the models are not trusted, they are trusted again only since a `resume` that was answered
+-- `resumed`
+abbrev pub DistrustLastsUntilAResume : Type 0
+DistrustLastsUntilAResume =
     (t u : Talking) (lines : List (List ℕ)) → HearsLines t lines u → is_trusted t ≡ false
-    → is_trusted u ≡ false
+    → is_trusted u ≡ true
+    → (since : Talking) × (s : IsTrustedSince t lines since u) × EndsResumed t s.before since
+
+-- the line is `resume`, is answered `resumed`, and brings trust back
+pub record BringsTrustBack (t u : Talking) (line : List ℕ) (answer : List (List ℕ)) : Type 0 where
+  pub line_is : line ≡ codes "resume"
+  pub answered : answer ≡ resumed_line (time_of u) ∷ []
+  pub resumes : Resumes t.hearing u.hearing
+
+-- the trust comes back in no other line
+abbrev pub NoOtherLineBringsTrustBack : Type 0
+NoOtherLineBringsTrustBack =
+    (t u : Talking) (line : List ℕ) (h : HearsLine t line u) → is_trusted t ≡ false
+    → is_trusted u ≡ true → BringsTrustBack t u line h.answer
 
 -- the answer is the line that tells the first state variable which is observed outside its interval
 pub record TellsOutside (t u : Talking) (answer : List (List ℕ)) : Type 0 where
@@ -76,9 +93,15 @@ TrustEndsByAnOutside =
 abbrev pub AsidesKeepTrust : Type 0
 AsidesKeepTrust =
     (t u : Talking) (line : List ℕ) (aside : Aside) → aside_of line ≡ Some aside
-    → HearsLine t line u → is_trusted u ≡ is_trusted t
+    → aside ≢ Resume → HearsLine t line u → is_trusted u ≡ is_trusted t
 
--- a draft or an input that is told to be ignored changes nothing
+-- .. and whatever stands in a resume, it does not end
+abbrev pub AsidesEndNoTrust : Type 0
+AsidesEndNoTrust =
+    (t u : Talking) (line : List ℕ) (aside : Aside) → aside_of line ≡ Some aside
+    → HearsLine t line u → is_trusted t ≡ true → is_trusted u ≡ true
+
+-- a draft, an input or a resume that is told to be ignored changes nothing
 abbrev pub IgnoredLinesChangeNothing : Type 0
 IgnoredLinesChangeNothing =
     (t u : Talking) (line : List ℕ) (h : HearsLine t line u) → h.heard ≡ Ignored → u ≡ t

@@ -2,14 +2,16 @@
 
 ghost use Rattle.std.specs.Global.{Global};
 ghost use Rattle.sot_law_guard_fallback.specs.Distrust.{
+  AsidesEndNoTrust,
   AsidesKeepTrust,
   BlindEndsTrust,
-  DistrustIsForGood,
+  DistrustLastsUntilAResume,
   DistrustedInstantsAreSafe,
   DistrustedTalksAreInModeSc,
   EndOfTrustAsksSafeNodes,
   IgnoredLinesChangeNothing,
   ModesStaySc,
+  NoOtherLineBringsTrustBack,
   OutsideEndsTrust,
   TrustEndsByAnOutside,
 };
@@ -21,9 +23,11 @@ ghost use Rattle.sot_law_guard_fallback.specs.Examples.{
   LineStaysSc,
 };
 
-/// Once the models are not trusted, they are not trusted again.
-pub fn distrust_is_for_good()
-    ensures { DistrustIsForGood }
+/// Once the models are not trusted, they are trusted again only since a `resume` that was answered
+/// `resumed`.
+pub fn distrust_lasts_until_a_resume()
+    ensures talk { DistrustLastsUntilAResume }
+    ensures line { NoOtherLineBringsTrustBack }
 {}
 
 /// Where the trust ends in a line, its answer tells a plant to be outside its model, or that the
@@ -37,12 +41,14 @@ pub fn outside_ends_trust()
     ensures { OutsideEndsTrust }
 {}
 
-/// Whatever a line says that begins as a draft or an input, the trust stays as it was.
+/// Whatever a line says that begins as a draft or an input, the trust stays as it was; and where it
+/// begins as a resume, the trust does not end.
 pub fn asides_keep_trust()
-    ensures { AsidesKeepTrust }
+    ensures drafts_and_inputs { AsidesKeepTrust }
+    ensures resumes { AsidesEndNoTrust }
 {}
 
-/// A draft or an input that is ignored changes nothing.
+/// A draft, an input or a resume that is ignored changes nothing.
 pub fn ignored_lines_change_nothing()
     ensures { IgnoredLinesChangeNothing }
 {}
