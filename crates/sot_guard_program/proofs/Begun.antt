@@ -3,10 +3,11 @@ use Rattle.std.proofs.Common.{ℕ, Bool, inl, length, sym, subst}
 use Rattle.sot_lang.specs.TableRules.{MeetsTableRules}
 use Rattle.sot_tube.specs.Admitted.{Admitted}
 use Rattle.sot_tube.specs.Certified.{IsWellCertified}
-use Rattle.sot_world.specs.Configurations.{IsOpening, IsSafer}
+use Rattle.sot_law_observed_runs.specs.Tubes.{KeepsTubes}
+use Rattle.sot_guard.proofs.Holding.{held_starts_keep_tubes}
 use Rattle.sot_guard_protocol.specs.Openings.{Starting}
 use Rattle.sot_guard_protocol.specs.Talks.{Talking}
-use Rattle.sot_guard_protocol.proofs.Conversing.{talks_observed, talks_safe}
+use Rattle.sot_guard_protocol.proofs.Conversing.{comes_back, talks_safe}
 use Rattle.sot_guard_program.specs.Conversations.{Begins, StaysSafe}
 use Rattle.sot_guard_program.specs.Moments.{Ears, Mouth, Ended}
 use Rattle.sot_guard_program.specs.Says.{SaysTalk}
@@ -14,19 +15,21 @@ use Rattle.sot_guard_program.specs.Beginning.{SaysFrom, SaysOpened}
 use Rattle.sot_guard_program.proofs.Passing.{ended_so}
 use Rattle.sot_guard_program.proofs.Answering.{answers_heard}
 
--- a talk about an accepted program's plants, each inside its module's safer region, stays safe
+-- a talk about an accepted program's plants, each held safe by the first commands, stays safe
 pub stays_safe : (a : Starting) (t : Talking) → MeetsTableRules a.accepted.program
     → IsWellCertified a.accepted.program a.accepted.cert.jitter a.accepted.cert → Begins a t → StaysSafe t
 stays_safe a t rules certified begins lines u text answers trusted =
     let heard = answers_heard t u lines text answers in
     let same = sym begins.accepted in
+    let tubes = held_starts_keep_tubes a.accepted.program a.accepted.cert a.starts t.hearing.guarding.at rules certified begins.opening begins.held in
+    let back = comes_back t u lines heard trusted in
     record {
-      observed = talks_observed t u lines heard trusted;
+      since = back.0;
+      trusted = back.1;
       inside =
-          talks_safe a.starts t u lines (subst (λ (x : Admitted). MeetsTableRules x.program) same rules)
+          talks_safe t u lines (subst (λ (x : Admitted). MeetsTableRules x.program) same rules)
           (subst (λ (x : Admitted). IsWellCertified x.program x.cert.jitter x.cert) same certified)
-          (subst (λ (x : Admitted). IsOpening x.program a.starts t.hearing.guarding.at) same begins.opening)
-          (subst (λ (x : Admitted). IsSafer x.program t.hearing.guarding.at) same begins.safer)
+          (λ on. subst (λ (x : Admitted). KeepsTubes x.program x.cert.jitter t.hearing.guarding.at) same tubes)
           heard trusted;
     }
 

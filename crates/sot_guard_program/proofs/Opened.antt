@@ -15,7 +15,7 @@ use Rattle.sot_guard_program.specs.Lines.{missing_word, at_line}
 use Rattle.sot_guard_protocol.specs.Answers.{misheard_word}
 use Rattle.sot_guard_program.specs.Conversations.{unopened, Starts}
 use Rattle.sot_guard_program.specs.Moments.{Ears, Mouth, Passes, Ended}
-use Rattle.sot_guard_program.specs.Says.{IsAtFault, IsOutside, SaysTalk, SaysRobot}
+use Rattle.sot_guard_program.specs.Says.{IsAtFault, IsUnheldLine, SaysTalk, SaysRobot}
 use Rattle.sot_guard_program.specs.Hearing.{HearsFirsts, HaltsFirsts, StopsFirst}
 use Rattle.sot_guard_program.specs.Tellings.{Tells, TellsStop}
 use Rattle.sot_guard_program.specs.Beginning.{SaysIn, SaysFrom, SaysOpened}
@@ -126,12 +126,12 @@ module _ (acc : Admitted) (e f : Ears) (x y : Mouth) (status : ℕ) where
           safe = stays;
           says = subst (λ n. SaysTalk t n f said (lent_lines bytes) text) count talk;
         })
-    says_robot said bytes text (inr (inl (is, empty, outside)), none) =
+    says_robot said bytes text (inr (inl (is, empty, unheld)), none) =
         inr (inl (record {
           opening = b;
           started = subst (λ ls. Starts (unopened acc) ls b) (sym (alone bytes none empty)) h.starts;
           all = all;
-          outside = subst (λ (a : Admitted). IsOutside a.program b.starts text) same outside;
+          unheld = subst (λ (a : Admitted). IsUnheldLine a b.starts text) same unheld;
           said_is = is;
         }))
     says_robot said bytes text (inr (inr (empty, (is, nothing))), none) =

@@ -19,6 +19,7 @@ use Rattle.sot_report.specs.FaultTexts.{fault_text}
 use Rattle.sot_report.specs.RefusalTexts.{refusal_text}
 use Rattle.sot_cli.specs.Texts.{input_limit, long_text}
 use Rattle.sot_cli.specs.declared.answer.Answer.{Answer}
+use Rattle.sot_guard.specs.Resuming.{IsStartUnsafe}
 use Rattle.sot_guard_protocol.specs.Openings.{Starting}
 use Rattle.sot_ports.specs.Faults.{Rose}
 use Rattle.sot_ports.specs.Outside.{Outside}
@@ -27,7 +28,8 @@ use Rattle.sot_guard_input.specs.Reading.{Reads}
 use Rattle.sot_guard_program.specs.Lines.{usage_text}
 use Rattle.sot_guard_program.specs.Ends.{EndsSome, ears_at, mouth_at}
 use Rattle.sot_guard_program.specs.Moments.{Ears, Mouth, Passes, Ended}
-use Rattle.sot_guard_program.specs.Says.{IsAtEnds, IsOutside, HasSectionFault, SaysMission, SaysAll, Says}
+use Rattle.sot_guard_program.specs.Says.{IsAtEnds, HasSectionFault, SaysMission, SaysAll, Says}
+use Rattle.sot_guard_program.specs.Tellings.{IsStartLine}
 use Rattle.sot_guard_program.specs.Beginning.{SaysFrom, SaysOpened, SaysJudged, SaysUnmarked}
 use Rattle.sot_guard_program.proofs.Passing.{passes_nil, utters_nil, ended_behind, ended_quiet, ended_so}
 
@@ -55,12 +57,15 @@ pub faulty_result : (r : Result Answer AllocError) (front : List ℕ) (f : Ears)
 faulty_result (Ok a) front f fault has status text = (three_other a.status status, inr (inr (inl (status, (fault, has, text)))))
 faulty_result (Err e) front f fault has status text = tt
 
--- a plant is observed first outside its module's safer region
-pub outside_result : (r : Result Answer AllocError) (b : Starting) (ended : Bool) (f : Ears) → IfOk r (λ a. a.status ≡ 1)
-    → IfOk r (λ a. IsOutside b.accepted.program b.starts a.text.items)
+-- a plant is not held safe
+pub unheld_result : (r : Result Answer AllocError) (b : Starting) (ended : Bool) (f : Ears) (m : ℕ)
+    → IsStartUnsafe b.accepted.program b.accepted.cert.jitter b.starts m → IfOk r (λ a. a.status ≡ 1)
+    → IfOk r (λ a. IsStartLine b.accepted.program b.starts m a.text.items)
     → IfOk r (λ a. (a.status ≢ 4) × SaysFrom ended (SaysOpened b) f a.status [] a.text.items)
-outside_result (Ok a) b ended f status outside = (one_other a.status status, (inr (inl (status, refl, outside)), λ _. refl))
-outside_result (Err e) b ended f status outside = tt
+unheld_result (Ok a) b ended f m unsafe status line =
+    let first = unsafe.2.unheld in
+    (one_other a.status status, (inr (inl (status, refl, (m, unsafe, line first.module_info first.is))), λ _. refl))
+unheld_result (Err e) b ended f m unsafe status line = tt
 
 -- a text has no mark
 pub unmarked_result : (r : Result Answer AllocError) (bytes : List ℕ) (f : Ears) → HasNone bytes → IsAtEnds f → length bytes ≤ input_limit

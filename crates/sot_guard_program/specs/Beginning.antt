@@ -18,7 +18,7 @@ use Rattle.sot_guard_protocol.specs.Talks.{Talking}
 use Rattle.sot_guard_program.specs.Conversations.{Begins, StaysSafe}
 use Rattle.sot_guard_program.specs.Moments.{Ears}
 use Rattle.sot_guard_program.specs.Says.{SaysTalk, SaysRobot, HasSectionFault}
-use Rattle.sot_guard_program.specs.Says.{IsSilent, IsOutside}
+use Rattle.sot_guard_program.specs.Says.{IsSilent, IsUnheldLine}
 
 -- what is said of bytes by their lines
 abbrev pub SaysIn : (Ears → ℕ → List (List ℕ) → List ℕ → Type 0) → Ears → ℕ → List ℕ → List ℕ
@@ -35,7 +35,7 @@ SaysFrom ended SaysLines b said bytes text =
 abbrev pub SaysOpened : Starting → Ears → ℕ → List (List ℕ) → List ℕ → Type 0
 SaysOpened a b said spoken text =
     ((t : Talking) × Begins a t × StaysSafe t × SaysTalk t (length a.starts) b said spoken text)
-    ⊎ ((said ≡ 1) × (spoken ≡ []) × IsOutside a.accepted.program a.starts text)
+    ⊎ ((said ≡ 1) × (spoken ≡ []) × IsUnheldLine a.accepted a.starts text)
     ⊎ ((spoken ≡ []) × IsSilent said text)
 
 -- what is said of an accepted mission

@@ -2,14 +2,14 @@
 use Rattle.std.specs.Prelude.{◌≡◌, ℕ, true, List, [], ◌∷◌, ◌++◌}
 use Rattle.sot_trace.specs.Traces.{text_of}
 use Rattle.sot_tube.specs.Admitted.{Admitted}
-use Rattle.sot_world.specs.Configurations.{IsOpening, IsSafer}
+use Rattle.sot_world.specs.Configurations.{IsOpening}
 use Rattle.sot_world.specs.Headline.{IsSafeNow}
 use Rattle.sot_guard.specs.declared.turn.SessionEvent.TheVariants.{Instant}
+use Rattle.sot_guard.specs.Resuming.{AreHeldSafe}
 use Rattle.sot_guard.specs.Hearing.{NoDrafts, jitter_of}
-use Rattle.sot_guard.specs.Conversations.{IsObserved}
 use Rattle.sot_guard_protocol.specs.Openings.{Starting, HasAll, TakesStart}
 use Rattle.sot_guard_protocol.specs.Talks.{Talking, tables_of}
-use Rattle.sot_guard_protocol.specs.TalkLaws.{HearsLine}
+use Rattle.sot_guard_protocol.specs.TalkLaws.{HearsLine, IsTrustedSince}
 
 -- no plant of an accepted program was observed yet
 abbrev pub unopened : Admitted → Starting
@@ -20,14 +20,16 @@ abbrev pub Starts : Starting → List (List ℕ) → Starting → Type 0
 Starts a [] b = b ≡ a
 Starts a (line ∷ lines) b = (c : Starting) × TakesStart a line c × Starts c lines b
 
--- a talk begins about plants that were all observed, each inside its module's safer region
+-- a talk begins about plants that were all observed, each held safe by the first commands until the
+-- safe node of its module fires
 pub record Begins (a : Starting) (t : Talking) : Type 0 where
   pub all : HasAll a
   pub opening : IsOpening a.accepted.program a.starts t.hearing.guarding.at
-  pub safer : IsSafer a.accepted.program t.hearing.guarding.at
+  pub held : AreHeldSafe a.accepted.program a.accepted.cert.jitter t.hearing.guarding.at
   pub trusted : t.hearing.guarding.trusted ≡ true
   pub accepted : t.hearing.guarding.accepted ≡ a.accepted
   pub turn : t.hearing.turn ≡ Instant
+  pub seen : t.hearing.seen ≡ true
   pub no_drafts : NoDrafts t.hearing
   pub no_events : t.events ≡ 0
 
@@ -38,13 +40,16 @@ Answers t (line ∷ lines) u text =
     (b : Talking) × (h : HearsLine t line b) × (more : List ℕ) × Answers b lines u more
     × (text ≡ text_of h.answer ++ more)
 
--- whatever is said: as long as no plant was told to be outside its model, all that happened is an
--- observed run, and each plant is observed inside its modules' safe regions
-pub record IsSafe (t u : Talking) : Type 0 where
-  pub observed : IsObserved t.hearing u.hearing
+-- the models are trusted since the first line, or since a `resume` that was answered `resumed`; all
+-- that happened since is an observed run; and each plant is observed inside its modules' safe
+-- regions
+pub record IsSafe (t : Talking) (lines : List (List ℕ)) (u : Talking) : Type 0 where
+  pub since : Talking
+  pub trusted : IsTrustedSince t lines since u
   pub inside : IsSafeNow (tables_of t) (jitter_of t.hearing) u.hearing.guarding.at
 
+-- whatever is said, that holds at each moment at which the models are trusted
 abbrev pub StaysSafe : Talking → Type 0
 StaysSafe t =
     (lines : List (List ℕ)) (u : Talking) (text : List ℕ) → Answers t lines u text
-    → u.hearing.guarding.trusted ≡ true → IsSafe t u
+    → u.hearing.guarding.trusted ≡ true → IsSafe t lines u

@@ -1,6 +1,7 @@
 -- Which text belongs to which status.
 use Rattle.std.specs.Prelude.{◌≡◌, ◌≢◌, ℕ, suc, ◌+◌, ◌≤◌, ◌⊎◌, ◌^◌, ◌-◌, ℤ, Bool, true, false, List}
 use Rattle.std.specs.Prelude.{[], ◌∷◌, ◌++◌, if◌then◌else◌, length, Ok, Err, String}
+use Rattle.std.specs.Prelude.{slice_index_or}
 use Rattle.std.specs.Io.KnownBytes.{IsAtEnd}
 use Rattle.std.proofs.Common.{Global}
 use Rattle.sot_text.specs.LineEnds.{lines}
@@ -8,7 +9,6 @@ use Rattle.sot_sections.specs.declared.mission.Need.TheVariants.{Check}
 use Rattle.sot_sections.specs.declared.mission.SectionFault.{SectionFault}
 use Rattle.sot_sections.specs.declared.mission.SectionKind.TheVariants.{Missing}
 use Rattle.sot_sections.specs.Sections.{Parts, split_of}
-use Rattle.sot_lang.specs.Tables.{Tables}
 use Rattle.sot_tube.specs.Admitted.{Admitted}
 use Rattle.sot_tube.specs.Certified.{IsWellCertified}
 use Rattle.sot_tube.specs.Verdict.{verdict}
@@ -20,13 +20,13 @@ use Rattle.sot_report.specs.declared.fault.Fault.{Fault}
 use Rattle.sot_report.specs.declared.fault.Fault.TheVariants as faults
 use Rattle.sot_report.specs.Missions.{Mission, SpellsMission, HasFault}
 use Rattle.sot_report.specs.FaultTexts.{fault_text}
-use Rattle.sot_report.specs.RefusalTexts.{refusal_text}
+use Rattle.sot_report.specs.RefusalTexts.{refusal_text, start_text}
 use Rattle.sot_report.specs.AcceptedTexts.{accepted_text}
-use Rattle.sot_cli.specs.Starts.{IsOutsideLine}
 use Rattle.sot_cli.specs.Texts.{input_limit, long_text}
 use Rattle.sot_guard_input.specs.Waiting.{longest, has_end}
 use Rattle.sot_guard.specs.declared.misheard.Misheard.{Misheard}
 use Rattle.sot_guard.specs.declared.misheard.Misheard.TheVariants.{NotALine}
+use Rattle.sot_guard.specs.Resuming.{IsStartUnsafe}
 use Rattle.sot_guard_lines.specs.Lines.{end_line}
 use Rattle.sot_guard_protocol.specs.Openings.{Starting, HasAll, IsNoStart}
 use Rattle.sot_guard_protocol.specs.Talks.{Talking, time_of, IsOver}
@@ -56,7 +56,7 @@ IsAtFault Faults spoken heard b why =
     ((line : List ℕ) × (spoken ≡ heard ++ line ∷ []) × Faults line why)
     ⊎ ((spoken ≡ heard) × (why ≡ NotALine) × IsLong b)
 
--- 0 as long as no plant was told to be outside its model, and 1 afterwards
+-- 0 where the models are trusted, and 1 where they are not
 abbrev pub end_status : Talking → ℕ
 end_status u = if u.hearing.guarding.trusted then 0 else 1
 
@@ -108,17 +108,21 @@ pub record Talks (acc : Admitted) (b : Ears) (said : ℕ) (spoken : List (List �
   pub safe : StaysSafe first
   pub says : SaysTalk first (length starts) b said more text
 
--- the line of the first module whose plant is observed outside the module's safer region
-abbrev pub IsOutside : Tables → List (List ℤ) → List ℕ → Type 0
-IsOutside p starts text = IsOutsideLine p starts text
+-- the line of the first module whose plant the first commands do not hold safe until the module's
+-- safe node fires, with where that plant was observed
+abbrev pub IsUnheldLine : Admitted → List (List ℤ) → List ℕ → Type 0
+IsUnheldLine acc starts text =
+    (m : ℕ) × (unsafe : IsStartUnsafe acc.program acc.cert.jitter starts m)
+    × (text ≡ start_text acc.program m
+    (slice_index_or starts unsafe.2.unheld.module_info.plant []))
 
--- a plant is observed outside its module's safer region
+-- a plant is not held safe
 pub record RefusesStart (acc : Admitted) (said : ℕ) (spoken : List (List ℕ)) (text : List ℕ)
     : Type 0 where
   pub opening : Starting
   pub started : Starts (unopened acc) spoken opening
   pub all : HasAll opening
-  pub outside : IsOutside acc.program opening.starts text
+  pub unheld : IsUnheldLine acc opening.starts text
   pub said_is : said ≡ 1
 
 -- the first line that does not say where the next plant is observed, and why; or the lines end

@@ -1,10 +1,14 @@
 -- How single answers are written.
-use Rattle.std.specs.Prelude.{◌≡◌, ℕ, ◌∷◌, [], List, Option, Result, Ok, Err}
+use Rattle.std.specs.Prelude.{◌≡◌, ℕ, ℤ, ◌∷◌, [], List, Option, Result, Ok, Err, slice_index_or}
 use Rattle.std.specs.declared.alloc.AllocError.{AllocError}
+use Rattle.sot_lists.specs.Places.{At}
+use Rattle.sot_lang.specs.declared.tables.ModuleInfo.{ModuleInfo}
+use Rattle.sot_lang.specs.Tables.{Tables}
 use Rattle.sot_ports.specs.Outside.{Written}
 use Rattle.sot_text_output.specs.declared.spool.Spool.{Spool}
 use Rattle.sot_text_output.specs.Spools.{IsSpooled}
 use Rattle.sot_text_output.specs.SpoolViews.{spooling}
+use Rattle.sot_report.specs.RefusalTexts.{start_text}
 use Rattle.sot_trace.specs.Traces.{text_of}
 use Rattle.sot_guard_lines.specs.Lines.{end_line}
 use Rattle.sot_guard_protocol.specs.Talks.{Talking, time_of}
@@ -15,6 +19,12 @@ use Rattle.sot_guard_program.specs.Lines.{missing_word, at_line}
 use Rattle.sot_guard_protocol.specs.Answers.{misheard_word}
 use Rattle.sot_guard_program.specs.Moments.{Mouth}
 use Rattle.sot_guard_program.specs.Says.{end_status}
+
+-- the line that refuses to begin since this module's plant, observed so, is not held safe
+abbrev pub IsStartLine : Tables → List (List ℤ) → ℕ → List ℕ → Type 0
+IsStartLine p starts m text =
+    (a : ModuleInfo) → At p.modules m a
+    → text ≡ start_text p m (slice_index_or starts a.plant [])
 
 -- nothing is written, and this is the status
 abbrev pub IsQuiet : ℕ → Mouth → Mouth → ℕ → Type 0

@@ -15,6 +15,7 @@ mod starts;
 mod talking;
 mod tell;
 mod top;
+mod unheld;
 
 pub use program::run;
 pub use sot_cli::Status;

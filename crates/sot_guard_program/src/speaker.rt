@@ -45,7 +45,7 @@ fn answer<K: Sink>(
     }
 }
 
-// 1 where a plant was told to be outside its model, and else 0.
+// 0 where the models are trusted, and 1 where they are not.
 fn end_status(talk: &Talk<'_>) -> u8
     ensures { result ≡ end_status talk.now }
 {
@@ -133,7 +133,7 @@ impl<'a> Speaker<'a> {
         Ok(())
     }
 
-    /// Writes the last line. The status is 1 where a plant was told to be outside its model.
+    /// Writes the last line. The status is 1 where the models are not trusted then.
     pub(crate) fn finish<K: Sink>(&mut self, sink: &mut K) -> Status
         ensures { TellsEnd self.old.talk (mouth (K.held sink.old) (K.faults sink.old))
             (mouth (K.held sink.new) (K.faults sink.new)) result.0 }

@@ -14,14 +14,15 @@ use crate::halt::stopped;
 use crate::speaker::Speaker;
 use crate::starts::hear_starts;
 use crate::tell::tell;
-use sot_cli::{Status, outside};
+use crate::unheld::unheld;
+use sot_cli::Status;
+use sot_guard::BeginFail;
 use sot_guard_input::Ear;
 use sot_guard_protocol::{Talk, TalkOpening};
 use sot_lang::Typed;
 use sot_ports::{Sink, Source};
 use sot_text_output::room;
 use sot_tube::Accepted;
-use sot_world::OpenFail;
 use std::alloc::Global;
 
 // Hears and answers what is said in a talk, of which these were the lines so far.
@@ -76,8 +77,8 @@ fn begin<S: Source, K: Sink>(
     };
     match Talk::begin(alloc, opening) {
         Ok(talk) => talk_on(Speaker { talk, waiting }, starts.len(), ear, source, sink),
-        Err(OpenFail::NotSafer { module }) => tell(outside(alloc, p, &starts, module), sink),
-        Err(OpenFail::Memory) => Status(6),
+        Err(BeginFail::NotHeldSafe { module }) => tell(unheld(alloc, p, &starts, module), sink),
+        Err(BeginFail::Memory) => Status(6),
     }
 }
 

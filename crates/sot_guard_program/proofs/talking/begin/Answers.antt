@@ -1,14 +1,19 @@
 use Rattle.std.proofs.Common.{ℕ, ℤ, List, [], refl, sym, ap, ◌∙◌, subst, length, inr, ◌≡◌, IfOk, arith}
+use Rattle.std.proofs.lemmas.Option.{slice_get_within}
+use Rattle.sot_lists.specs.Places.{At}
 use Rattle.sot_lang.specs.Tables.{Tables}
 use Rattle.sot_lang.specs.TableRules.{MeetsTableRules}
 use Rattle.sot_tube.specs.Certified.{IsWellCertified}
+use Rattle.sot_guard.specs.declared.begin_fail.BeginFail.{BeginFail}
+use Rattle.sot_guard.specs.Resuming.{IfNotHeld, IsStartUnsafe}
 use Rattle.sot_guard_program.specs.Moments.{ears, mouth, Ended}
-use Rattle.sot_guard_program.specs.Says.{SaysTalk, IsOutside}
+use Rattle.sot_guard_program.specs.Says.{SaysTalk}
+use Rattle.sot_guard_program.specs.Tellings.{IsStartLine}
 use Rattle.sot_guard_program.specs.Beginning.{SaysFrom, SaysOpened}
 use Rattle.sot_guard_program.proofs.Passing.{passes_nil}
 use Rattle.sot_guard_program.proofs.Begun.{begun}
 use Rattle.sot_guard_program.proofs.Judged.{answered}
-use Rattle.sot_guard_program.proofs.Results.{silent, outside_result}
+use Rattle.sot_guard_program.proofs.Results.{silent, unheld_result}
 use Rattle.sot_guard_program.proofs.talking.begin.Goals as goal
 
 pub returns-in-Err : goal.returns-in-Err
@@ -33,27 +38,42 @@ returns-in-Ok-begin g c =
     (record {
       all = c.requires.all;
       opening = begins.opening;
-      safer = begins.safer;
+      held = begins.held;
       trusted = begins.trusted;
       accepted = begins.accepted;
       turn = begins.turn;
+      seen = begins.seen;
       no_drafts = begins.no_drafts;
       no_events = begins.no_events;
     })
     (subst (λ (n : ℕ). Ended (SaysFrom ended (SaysTalk t n)) e f x y status) count c.talk_on.ensures)
 
-pub returns-in-Err-NotSafer : goal.returns-in-Err-NotSafer
-returns-in-Err-NotSafer g c =
+pub unheld-requires-clause-there : goal.unheld-requires-clause-there
+unheld-requires-clause-there g c =
+    let m = c.in-Err-NotHeldSafe.module in
+    let a = c.args.opening in
+    let unsafe = subst (λ (f : BeginFail). IfNotHeld f (λ n. IsStartUnsafe a.accepted.program a.accepted.cert.jitter a.starts n))
+    c.in-Err-NotHeldSafe.field-0-is c.in-Err-NotHeldSafe.ensures.not_held in
+    let first = unsafe.2.unheld in
+    slice_get_within c.args.p.now.modules m first.module_info
+    (subst (λ (p : Tables). At p.modules m first.module_info) c.requires.program first.is)
+
+pub returns-in-Err-NotHeldSafe : goal.returns-in-Err-NotHeldSafe
+returns-in-Err-NotHeldSafe g c =
     let a = c.args.opening in
     let ended = c.args.ear.now.ended in
     let e = ears (g.S.Source.left c.args.source.now) (g.S.Source.faults c.args.source.now) c.args.ear.now in
     let x = mouth (g.K.Sink.held c.args.sink.now) (g.K.Sink.faults c.args.sink.now) in
     let y = mouth (g.K.Sink.held c.tell.new.sink) (g.K.Sink.faults c.tell.new.sink) in
-    let r = c.outside.result in
+    let r = c.unheld.result in
+    let unsafe = subst (λ (f : BeginFail). IfNotHeld f (λ n. IsStartUnsafe a.accepted.program a.accepted.cert.jitter a.starts n))
+    c.in-Err-NotHeldSafe.field-0-is c.in-Err-NotHeldSafe.ensures.not_held in
+    let m = c.in-Err-NotHeldSafe.module in
     let starts = c.deref.ensures.value ∙ c.in-Ok.ensures.items ∙ c.starts.ensures in
-    let text = subst (λ (p : Tables). IfOk r (λ m. IsOutside p a.starts m.text.items)) (sym c.requires.program)
-    (subst (λ (s : List (List ℤ)). IfOk r (λ m. IsOutside c.args.p.now s m.text.items)) starts c.outside.ensures.text) in
-    answered e e x y c.tell.result.0 (SaysFrom ended (SaysOpened a)) [] r (passes_nil e) (outside_result r a ended e c.outside.ensures.status text)
+    let line = subst (λ (p : Tables). IfOk r (λ n. IsStartLine p a.starts m n.text.items)) (sym c.requires.program)
+    (subst (λ (s : List (List ℤ)). IfOk r (λ n. IsStartLine c.args.p.now s m n.text.items)) starts c.unheld.ensures.text) in
+    answered e e x y c.tell.result.0 (SaysFrom ended (SaysOpened a)) [] r (passes_nil e)
+    (unheld_result r a ended e m unsafe c.unheld.ensures.status line)
     (inr (inr (refl, (refl, refl))), λ _. refl) c.tell.ensures
 
 pub returns : goal.returns
