@@ -39,6 +39,7 @@ draft fast lamp.level!30 cmd=7 => draft 0 0:30 2:7
 draft fast cmd=9223372036854775808 => draft 0 large
 draft slow cmd=1 => draft 1 0:1
 go => go
+resume => resume
 tick pos(0,0) still(7) => tick: 0 0 7
 tick pos(0,-9223372036854775808) still(1) => tick: 0 -9223372036854775808 1
 tick pos(0,1) still(-99999999999999999999) => tick: large
@@ -84,6 +85,13 @@ draft slow lamp.level=3 => nothing
 go now => nothing
 going => nothing
 GO => nothing
+resume now => nothing
+resume  => nothing
+ resume => nothing
+resumed => nothing
+resum => nothing
+Resume => nothing
+0 resume => nothing
 tick => nothing
 tick pos(0,0) => nothing
 tick still(7) pos(0,0) => nothing
@@ -137,6 +145,7 @@ fn push_said(said: Option<Said>, numbers: &[i64], text: &mut String) -> Result<(
             push_draft(&draft, text)
         }
         Some(Said::Go) => text.push_str("go"),
+        Some(Said::Resume) => text.push_str("resume"),
         Some(Said::Tick { whole }) => {
             text.push_str("tick")?;
             push_numbers(numbers, whole, text)
