@@ -30,7 +30,6 @@ text{font:11px sans-serif;fill:#222}
 .ignored{stroke:#b36b00;stroke-width:1.5}
 .blind{stroke:#c00;stroke-width:2.5}
 .lost{stroke:#c00;stroke-dasharray:4 3}
-.resumed{stroke:#080;stroke-dasharray:4 3}
 .badbox{fill:#d00;fill-opacity:.12;stroke:#d00;stroke-dasharray:2 2}
 .badcell{fill:none;stroke:#d00;stroke-width:2}
 .badpoint{fill:#d00}
@@ -59,13 +58,15 @@ text{fill:#ddd}
 .ignored{stroke:#f0b050}
 .blind{stroke:#ff6b6b}
 .lost{stroke:#ff6b6b}
-.resumed{stroke:#6bcf6b}
 .badbox{fill:#ff6b6b;stroke:#ff6b6b}
 .badcell{stroke:#ff6b6b}
 .badpoint{fill:#ff6b6b}
 .bad{fill:#ff8a8a}
 }
 '''
+
+# of a talk in which trust came back alone: one colour on light and dark paper
+RESUMED = '.resumed{stroke:#2a9d2a;stroke-dasharray:4 3}\n'
 
 
 def pixels(number):
@@ -175,8 +176,9 @@ class Sheet:
         self.parts.append(f'<text{attributes_of({"x": x, "y": y, "class": style, "text-anchor": anchor})}>{escape(said)}</text>')
 
     def whole(self, width, height, title, description):
+        style = STYLE + DARK + (RESUMED if any('class="resumed"' in part for part in self.parts) else '')
         head = (f'<svg xmlns="http://www.w3.org/2000/svg" width="{width}" height="{height}" viewBox="0 0 {width} {height}" role="img">\n'
-                f'<title>{escape(title)}</title>\n<desc>{escape(description)}</desc>\n<style>{STYLE}{DARK}</style>\n'
+                f'<title>{escape(title)}</title>\n<desc>{escape(description)}</desc>\n<style>{style}</style>\n'
                 f'<rect class="paper" x="0" y="0" width="{width}" height="{height}"/>\n')
         return head + '\n'.join(self.parts) + '\n</svg>\n'
 
