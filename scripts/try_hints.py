@@ -179,7 +179,7 @@ TALKS = [
     ('start robot(15000,0)\ndraft planner acc = 5', ['behind `acc` stands `=`, without a blank']),
     ('start robot(15000,0)\nGo', ['write `go`, in small letters']),
     ('start robot(15000,0)\ngo\ntick robot(15000,0) robot(1,1)', ['column 20: the line ends here']),
-    ('start robot(0,150)', ['robot starts at gap 0.000, v 1.50', 'start the plant inside `safer`']),
+    ('start robot(0,150)', ['robot starts at gap 0.000, v 1.50', 'bring the robot further inside']),
 ]
 
 
