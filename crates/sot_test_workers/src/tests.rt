@@ -119,8 +119,7 @@ fn alone(rt: &(impl Abort + Threads + Sync), alloc: Global, text: &str) -> Strin
     board_text(alloc, &board).expect(rt, "memory")
 }
 
-// The trace of a mission's flight, which has no guests, where the nodes that are worth it have
-// workers in threads.
+// The trace of a mission's flight, which has no guests, by workers in threads.
 fn threads<R: Abort + Threads + Wait + Sync>(rt: &R, alloc: Global, text: &str) -> String {
     let mut nobody: Vec<Keeper> = Vec::new(alloc);
     let (trace, _) = trace_of(rt, alloc, text, &mut nobody);

@@ -13,3 +13,5 @@ pub mod OwnTurns
 pub mod Ordered
 pub mod Going
 pub mod Landing
+pub mod Weights
+pub mod Noted

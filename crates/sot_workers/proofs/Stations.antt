@@ -19,7 +19,7 @@ use Rattle.sot_fly_worker.specs.Askings.{Asking}
 use Rattle.sot_fly_worker.specs.Shifts.{HasItsGuest, IsOnShift}
 use Rattle.sot_workers.specs.declared.lists.NodeList.{NodeList}
 use Rattle.sot_workers.specs.declared.place.Station.{Station}
-use Rattle.sot_workers.specs.declared.place.Station.TheVariants.{Caller, Refused, Thread}
+use Rattle.sot_workers.specs.declared.place.Station.TheVariants.{Guest, Caller, Thread}
 use Rattle.sot_workers.specs.Flying.{IsOwn}
 use Rattle.sot_workers.specs.Lists.{HasNodes, AreOwnLists, AreMine}
 use Rattle.sot_workers.specs.Back.{lists_after}
@@ -60,8 +60,8 @@ module _ {C : Type 0} where
   -- a worker whose shift was sent is at its node
   pub sent_at : (lock : TableId) (a : Admitted) (f : Plan) (n : ℕ) (began : Shift C) (station : Station C) → IsNodeShift lock a f n began
       → IsSent lock began station → IsAt lock a f n station
-  sent_at lock a f n began Caller is sent = absurd sent
-  sent_at lock a f n began (Refused pass) is sent = sent
+  sent_at lock a f n began Guest is sent = absurd sent
+  sent_at lock a f n began (Caller pass) is sent = sent
   sent_at lock a f n began (Thread child) is sent = subst (IsNodeShift lock a f n) (sym sent) is
 
   -- what a shift that is at its end and its caller have seen begins one list, so it ends with the same history, whose drafts it has
@@ -99,7 +99,7 @@ none_relieved count f away lists history mine = record {
 }
 
 -- what stands behind a list, at its length
-index_behind : (front : List Bool) (x : Bool) (rest : List Bool) → slice_index_or (front ++ x ∷ rest) (length front) false ≡ x
+pub index_behind : (front : List Bool) (x : Bool) (rest : List Bool) → slice_index_or (front ++ x ∷ rest) (length front) false ≡ x
 index_behind [] x rest = refl
 index_behind (y ∷ front) x rest = index_behind front x rest
 

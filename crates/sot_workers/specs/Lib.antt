@@ -8,6 +8,7 @@ pub mod Sent
 pub mod Stations
 pub mod Back
 pub mod Forms
+pub mod Threads
 pub mod Rooms
 pub mod Leaving
 -- what an instant's work promises

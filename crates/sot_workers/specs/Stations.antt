@@ -10,8 +10,9 @@ use Rattle.sot_board.specs.Versions.{drafts_of}
 use Rattle.sot_fly_worker.specs.declared.shift.Shift.{Shift}
 use Rattle.sot_fly_worker.specs.Shifts.{IsReady}
 use Rattle.sot_workers.specs.declared.lists.NodeList.{NodeList}
+use Rattle.sot_workers.specs.Flying.{IsOwn}
 use Rattle.sot_workers.specs.declared.place.Station.{Station}
-use Rattle.sot_workers.specs.declared.place.Station.TheVariants.{Caller, Refused, Thread}
+use Rattle.sot_workers.specs.declared.place.Station.TheVariants.{Guest, Caller, Thread}
 
 module _ {C : Type 0} where
   -- a shift that has not begun, of this node
@@ -21,25 +22,24 @@ module _ {C : Type 0} where
     pub ground : pass_ground shift.pass ≡ Some (a, f)
     pub node : shift.node ≡ n
 
-  -- a shift that was started, or whose pass came back
+  -- a shift that began in a thread, or whose pass stays
   abbrev pub IsSent : TableId → Shift C → Station C → Type 0
-  IsSent lock began Caller = ⊥
-  IsSent lock began (Refused pass) = pass_lock pass ≡ lock
+  IsSent lock began Guest = ⊥
+  IsSent lock began (Caller pass) = pass_lock pass ≡ lock
   IsSent lock began (Thread child) = child.promise.0.value ≡ began
 
-  -- the worker of this node has a thread, in which a shift of it began, or it has none
+  -- a guest flies this node; or the pass of its job stays; or a shift of it began in a thread
   abbrev pub IsAt : TableId → Admitted → Plan → ℕ → Station C → Type 0
-  IsAt lock a f n Caller = Unit {0}
-  IsAt lock a f n (Refused pass) = pass_lock pass ≡ lock
+  IsAt lock a f n Guest = ¬ (IsOwn f n)
+  IsAt lock a f n (Caller pass) = pass_lock pass ≡ lock
   IsAt lock a f n (Thread child) = IsNodeShift lock a f n child.promise.0.value
 
   abbrev pub has_thread : Station C → Bool
-  has_thread Caller = false
-  has_thread (Refused pass) = false
+  has_thread Guest = false
+  has_thread (Caller pass) = false
   has_thread (Thread child) = true
 
-  -- the worker of this node has a thread, in which a shift of it began, or it has none; which of
-  -- both is noted
+  -- a worker is at this node, and it is noted whether it has a thread
   abbrev pub IsStationed : TableId → Admitted → Plan → ℕ → Bool → Station C → Type 0
   IsStationed lock a f n away station = (away ≡ has_thread station) × IsAt lock a f n station
 

@@ -81,7 +81,7 @@ fn fly_in<'s, 'a: 's, E, C: Controller + Send + 's, R: Threads + Wait + Sync>(
     let Room {
         mut lists,
         mut rings,
-        few,
+        tried,
         long,
         forms,
         stations,
@@ -95,7 +95,7 @@ fn fly_in<'s, 'a: 's, E, C: Controller + Send + 's, R: Threads + Wait + Sync>(
         rt, alloc, scope, turn, bells, flight, pass, &mut lists, guests, places,
     );
     let (pass, stations, away) = station_each(
-        rt, alloc, scope, turn, bells, flight, few, &long, pass, &mut lists, forms, stations, away,
+        rt, alloc, scope, turn, bells, flight, &tried, pass, &mut lists, forms, stations, away,
     );
     let pass = watch(
         rt,
@@ -190,12 +190,12 @@ fn fly_behind<'a, C: Controller + Send, R: Threads + Wait + Sync>(
     Flown { board, lists }
 }
 
-/// Flies a newly opened board to the end of its flight. Each guest that the flight names drafts for
-/// its node, in a thread of its own where one can be made. So does the worker of each other node
-/// that is worth it: its body is long, or the firings of all of them are few. The caller does all
-/// else. It never waits for a guest before it has to: time goes on while a guest is asked, as far
-/// as the jitter allows. The nodes that no guest flies fire as soon as they are due and in declared
-/// order, whoever runs their code.
+/// Flies a newly opened board to the end of its flight. Each node has a job, a pass with its list
+/// of drafts, which a worker takes to a thread of its own where the rule says that the start of one
+/// is tried, and where it can be made. A guest that the flight names drafts for its node there. The
+/// caller fires the nodes whose jobs stayed, and does all else. It never waits for a guest before
+/// it has to: time goes on while a guest is asked, as far as the jitter allows. The nodes that no
+/// guest flies fire as soon as they are due and in declared order, whoever runs their code.
 ///
 /// All memory is taken before the first event. Where there is none, no guest was asked, and the
 /// board is dropped. It waits for the guests, and nobody promises that it returns.

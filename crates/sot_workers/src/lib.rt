@@ -1,11 +1,12 @@
 //! The flying of a flight, from the start to its horizon.
 //!
-//! [`fly`] takes turns at a board with the guests of the flight, each of which has a thread of its
-//! own where one can be made. In its turns the caller does all else: the inputs, the decisions, the
-//! firings of nodes that no guest flies, and the ticks, wherever one may come. [`fly_alone`] does
-//! the same without guests. The clauses of the board say that each of these is a step of the
-//! semantics, as the flight states it; that all of them together are a history of the flight is the
-//! clause here, with what became of the guests.
+//! [`fly`] takes turns at a board with the workers of the nodes, each of which has a thread of its
+//! own where the rule says so (src/rule.rt) and one can be made. In its turns the caller does all
+//! else: the inputs, the decisions, the firings of the other nodes, and the ticks, wherever one may
+//! come. [`fly_without_guests`] does the same where there are no guests, and [`fly_alone`] with no
+//! worker at all. The clauses of the board say that each of these is a step of the semantics, as
+//! the flight states it; that all of them together are a history of the flight is the clause here,
+//! with what became of the guests.
 #![tactic(auto)]
 
 mod back;
@@ -14,6 +15,7 @@ mod forms;
 mod instant;
 mod join;
 mod lists;
+mod nobody;
 mod own;
 mod place;
 mod relief;
@@ -28,5 +30,6 @@ mod whole;
 
 pub use crewed::{Flown, fly};
 pub use lists::NodeList;
+pub use nobody::{Nobody, fly_without_guests};
 pub use rule::has_workers;
 pub use whole::fly_alone;

@@ -22,13 +22,12 @@ pub(crate) enum Place<'a, C: Controller> {
     Here(Option<Shift<'a, C>>),
 }
 
-/// Who fires a node that no guest flies, as the worker of the node: the caller, or a shift that
-/// runs in a thread. Where one could not be started, the caller does, and the pass of the shift
-/// stays.
+/// Who fires a node: the worker of its guest, which has a place of its own; or the caller, with
+/// whom the pass of the node's job stays; or a shift that runs in a thread.
 #[derive(Drop)]
 pub(crate) enum Station<'a, C: Controller> {
-    Caller,
-    Refused(Pass<Board<'a>>),
+    Guest,
+    Caller(Pass<Board<'a>>),
     Thread(PromisedHandle<Shift<'a, C>, Works<'a, C>>),
 }
 

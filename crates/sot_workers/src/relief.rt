@@ -91,8 +91,8 @@ fn relieve<'a, C: Controller, R: Threads + Wait>(
         → IsRelieved whole n away result.1 }
 {
     match station {
-        Station::Caller => (pass, None),
-        Station::Refused(other) => (turn.join(pass, other), None),
+        Station::Guest => (pass, None),
+        Station::Caller(other) => (turn.join(pass, other), None),
         Station::Thread(child) => {
             let (pass, list) = end(rt, turn, bells, pass, child.join(rt));
             (pass, Some(list))

@@ -4,26 +4,27 @@ ghost use Rattle.std.specs.Prelude.{◌≡◌, ◌≤◌, [], length, vec_len, v
 ghost use Rattle.sot_workers.specs.Forms.{AreFormsOf};
 ghost use Rattle.sot_workers.specs.Lists.{AreEmpty};
 ghost use Rattle.sot_workers.specs.Rooms.{HasRoom};
+ghost use Rattle.sot_workers.specs.Threads.{is_tried, AreNoted};
 
 use crate::forms::forms_for;
 use crate::lists::{NodeList, no_lists};
 use crate::place::{Done, Place, Station};
 use crate::rings::Rings;
-use crate::rule::{are_few, long_each};
+use crate::rule::{long_each, tried_each};
 use sot_eval_flat::Flat;
 use sot_flight::Flight;
 use sot_fly_worker::Controller;
 use sot_lang::Typed;
 use std::alloc::{AllocError, Global};
 
-/// The memory of a flight but for the lock and the bells: the lists, which nodes are worth a
-/// thread, the flat forms of their bodies, and room for workers and guests while they are out and
-/// when they come back.
+/// The memory of a flight but for the lock and the bells: the lists, for which nodes the start of a
+/// thread is tried and which of them have long bodies, the flat forms of their bodies, and room for
+/// workers and guests while they are out and when they come back.
 #[derive(Drop)]
 pub(crate) struct Room<'a, C: Controller> {
     pub(crate) lists: Vec<NodeList>,
     pub(crate) rings: Rings,
-    pub(crate) few: bool,
+    pub(crate) tried: Vec<bool>,
     pub(crate) long: Vec<bool>,
     pub(crate) forms: Vec<Option<Flat>>,
     pub(crate) stations: Vec<Station<'a, C>>,
@@ -47,15 +48,17 @@ pub(crate) fn room_for<'a, C: Controller>(
     ensures guests { IfOk result (λ room. (room.guests.items ≡ [])
         × (count ≤ vec_capacity room.guests)) }
     ensures forms { IfOk result (λ room. AreFormsOf p.now room.forms.items) }
+    ensures tried { IfOk result (λ room.
+        AreNoted (length p.now.nodes) (is_tried p.now flight.now) room.tried.items) }
 {
     let nodes = p.nodes.len();
-    let few = are_few(p, flight);
     let long = long_each(alloc, p)?;
-    let forms = forms_for(alloc, p, flight, few, &long)?;
+    let tried = tried_each(alloc, p, flight, &long)?;
+    let forms = forms_for(alloc, p, &tried)?;
     Ok(Room {
         lists: no_lists(alloc, p, flight.horizon())?,
         rings: Rings::new(alloc, nodes)?,
-        few,
+        tried,
         long,
         forms,
         stations: Vec::with_capacity(alloc, nodes)?,

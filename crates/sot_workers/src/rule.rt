@@ -1,29 +1,37 @@
-//! Which nodes get a thread of their own. It is decided before the flight, from the calendar and
-//! the bodies alone.
+//! For which nodes the start of a thread is tried. It is decided before the flight, from the
+//! calendar, the crew and the bodies alone.
 
-ghost use Rattle.std.specs.Prelude.{◌≡◌, ◌≤◌, length};
+ghost use Rattle.std.specs.Prelude.{◌≡◌, ◌≤◌, ◌<◌, ℕ, ◌-◌, ◌^◌, ◌&&◌, length, min, IfOk};
+ghost use Rattle.std.specs.Prelude.{false, nat_lt, slice_index_or};
+ghost use Rattle.sot_lists.specs.Places.{At};
+ghost use Rattle.sot_lang.specs.declared.tables.NodeInfo.{NodeInfo};
+ghost use Rattle.sot_lang.specs.Tables.{Tables};
+ghost use Rattle.sot_flight.specs.Counts.{due_count, firing_count};
+ghost use Rattle.sot_workers.specs.Threads.{weight, statements, has_long_body, has_guest};
+ghost use Rattle.sot_workers.specs.Threads.{is_long, is_small, is_tried, AreNoted};
 
 use sot_calendar::firings;
 use sot_flight::Flight;
-use sot_lang::{Act, Typed};
+use sot_lang::{Act, NodeInfo, Typed};
 use std::alloc::{AllocError, Global};
 
-/// A body of so many statements, with loops unrolled, is long.
+/// In a flight with at most so many nodes, which fire at most so often up to the horizon, the start
+/// of a thread is tried for each node.
+const MOST_NODES: usize = 64;
+
+const MOST_FIRINGS: u64 = 100_000;
+
+/// In any other flight it is tried for the nodes with guests, and for so many with long bodies: of
+/// so many statements, with loops unrolled. These run at once.
+const MOST_LONG: usize = 16;
+
 const LONG_BODY: u32 = 1000;
-
-/// So many nodes with long bodies get threads, which run at once.
-const MOST_LONG: u32 = 16;
-
-/// With at most so many firings of nodes that no guest flies, each of these nodes gets a thread,
-/// unless the program has more than `FEW_NODES` nodes.
-const FEW_FIRINGS: u32 = 1000;
-
-/// In a program with more nodes than these not every node gets a thread: to start one takes long.
-const FEW_NODES: usize = 32;
 
 // How many statements a block has, with loops unrolled.
 #[cycle(weigh)]
-fn statements(acts: &[Act]) -> u32 {
+fn statements(acts: &[Act]) -> u32
+    ensures { result ≡ min (statements acts.now) (2 ^ 32 - 1) }
+{
     let mut count: u32 = 0;
     for act in acts {
         count = count.saturating_add(weight(act));
@@ -33,7 +41,9 @@ fn statements(acts: &[Act]) -> u32 {
 
 // How many statements one statement is, with itself and all that stand in it, loops unrolled.
 #[cycle(weigh)]
-fn weight(act: &Act) -> u32 {
+fn weight(act: &Act) -> u32
+    ensures { result ≡ min (weight act.now) (2 ^ 32 - 1) }
+{
     match act {
         Act::Assign { .. } => 1,
         Act::Publish { .. } => 1,
@@ -46,65 +56,126 @@ fn weight(act: &Act) -> u32 {
     }
 }
 
-// How often the nodes that no guest flies fire up to the horizon.
-fn all_firings(p: &Typed, flight: &Flight) -> u32
-    requires crews { length flight.now.crews ≡ length p.now.nodes }
-    requires horizon { flight.now.horizon ≤ 100000 }
-{
-    let mut count: u32 = 0;
-    for node in 0..p.nodes.len() {
-        if flight.guest(node as u32).is_none() {
-            let info = &p.nodes[node];
-            let more = firings(info.period, info.offset, flight.horizon());
-            count = count.saturating_add(more);
-        }
-    }
-    count
-}
-
 // Whether the body of a node is long.
-fn is_long(p: &Typed, node: usize) -> bool {
-    match p.nodes.get(node) {
-        Some(info) => match &info.body {
-            Some(acts) => statements(acts) >= LONG_BODY,
-            None => false,
-        },
+fn has_long_body(node: &NodeInfo) -> bool
+    ensures { result ≡ has_long_body node.now }
+{
+    match &node.body {
+        Some(acts) => statements(acts) >= LONG_BODY,
         None => false,
     }
 }
 
-/// Whether there are few nodes, and few firings of those that no guest flies.
-pub(crate) fn are_few(p: &Typed, flight: &Flight) -> bool
-    requires crews { length flight.now.crews ≡ length p.now.nodes }
-    requires horizon { flight.now.horizon ≤ 100000 }
+// How often it is due up to and including the horizon.
+#[tactic(auto, using(sot_flight::proofs::DueCounts::due_count_is))]
+fn due_times(period: u32, offset: u32, horizon: u32) -> u64
+    requires times { (offset < period) × (period ≤ 1000) }
+    requires horizon { horizon ≤ 100000 }
+    ensures { result ≡ due_count period offset horizon }
 {
-    p.nodes.len() <= FEW_NODES && all_firings(p, flight) <= FEW_FIRINGS
+    u64::from(firings(period, offset, horizon))
 }
 
-/// Whether some node gets a thread of its own, in a flight in which no guest flies one.
-pub fn has_workers(p: &Typed, flight: &Flight) -> bool
+fn firings_of(nodes: &[NodeInfo], horizon: u32) -> u64
+    requires times { (n : ℕ) (node : NodeInfo) → At nodes.now n node
+        → (node.offset < node.period) × (node.period ≤ 1000) }
+    requires few { length nodes.now ≤ 300 }
+    requires horizon { horizon ≤ 100000 }
+    ensures { result ≡ firing_count horizon nodes.now }
+{
+    let mut sum = 0;
+    for node in nodes {
+        sum += due_times(node.period, node.offset, horizon);
+    }
+    sum
+}
+
+// Whether the flight has few nodes, and few firings.
+fn is_small(p: &Typed, flight: &Flight) -> bool
+    requires { flight.now.horizon ≤ 100000 }
+    ensures { result ≡ is_small p.now flight.now }
+{
+    p.nodes.len() <= MOST_NODES && firings_of(&p.nodes, flight.horizon()) <= MOST_FIRINGS
+}
+
+// Whether a guest flies a node.
+fn has_guest(flight: &Flight, node: u32) -> bool
+    requires { node < length flight.now.crews }
+    ensures { result ≡ has_guest flight.now node }
+{
+    flight.guest(node).is_some()
+}
+
+/// Whether the start of a thread is tried for a node, in a flight that is small or not, where its
+/// body is one of the first long ones or not.
+fn is_tried(flight: &Flight, node: u32, small: bool, long: bool) -> bool
+    requires { node < length flight.now.crews }
+    ensures { (p : Tables) → small ≡ is_small p flight.now → long ≡ is_long p node
+        → result ≡ is_tried p flight.now node }
+{
+    small || has_guest(flight, node) || long
+}
+
+// Whether a body is one of the first long ones: it is long, and so many are before it.
+fn is_first(long: bool, before: usize) -> bool
+    ensures { result ≡ long && nat_lt before 16 }
+{
+    long && before < MOST_LONG
+}
+
+/// Of each node, whether its body is one of the first long ones.
+pub(crate) fn long_each(alloc: Global, p: &Typed) -> Result<Vec<bool>, AllocError>
+    ensures { IfOk result (λ long. AreNoted (length p.now.nodes) (is_long p.now) long.items) }
+{
+    let mut long = Vec::with_capacity(alloc, p.nodes.len())?;
+    let mut count = 0;
+    for node in 0..p.nodes.len() {
+        let is_one = has_long_body(&p.nodes[node]);
+        long.push_reserved(is_first(is_one, count));
+        if is_one {
+            count += 1;
+        }
+    }
+    Ok(long)
+}
+
+/// Of each node, whether the start of a thread is tried for it.
+pub(crate) fn tried_each(
+    alloc: Global,
+    p: &Typed,
+    flight: &Flight,
+    long: &Vec<bool>,
+) -> Result<Vec<bool>, AllocError>
     requires crews { length flight.now.crews ≡ length p.now.nodes }
     requires horizon { flight.now.horizon ≤ 100000 }
+    requires long { AreNoted (length p.now.nodes) (is_long p.now) long.now.items }
+    ensures { IfOk result (λ tried.
+        AreNoted (length p.now.nodes) (is_tried p.now flight.now) tried.items) }
 {
-    let few = are_few(p, flight);
+    let small = is_small(p, flight);
+    let mut tried = Vec::with_capacity(alloc, p.nodes.len())?;
     for node in 0..p.nodes.len() {
-        if few || is_long(p, node) {
+        let is_long = is_noted(long, node);
+        tried.push_reserved(is_tried(flight, node as u32, small, is_long));
+    }
+    Ok(tried)
+}
+
+/// Whether the start of a thread is tried for some node, in a flight in which no guest flies one.
+pub fn has_workers(p: &Typed, flight: &Flight) -> bool
+    requires { flight.now.horizon ≤ 100000 }
+{
+    for node in 0..p.nodes.len() {
+        if has_long_body(&p.nodes[node]) {
             return true;
         }
     }
-    false
+    is_small(p, flight)
 }
 
-/// Of each node, whether its body is long; of at most so many nodes.
-pub(crate) fn long_each(alloc: Global, p: &Typed) -> Result<Vec<bool>, AllocError> {
-    let mut long = Vec::with_capacity(alloc, p.nodes.len())?;
-    let mut count: u32 = 0;
-    for node in 0..p.nodes.len() {
-        let is_one = count < MOST_LONG && is_long(p, node);
-        if is_one {
-            count = count.saturating_add(1);
-        }
-        long.push_reserved(is_one);
-    }
-    Ok(long)
+/// Whether it is noted of a node.
+pub(crate) fn is_noted(noted: &Vec<bool>, node: usize) -> bool
+    ensures { result ≡ slice_index_or noted.now.items node false }
+{
+    node < noted.len() && noted[node]
 }

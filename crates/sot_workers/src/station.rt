@@ -1,6 +1,7 @@
 //! Starting the workers of nodes that no guest flies.
 
-ghost use Rattle.std.specs.Prelude.{◌≡◌, ◌<◌, ◌≤◌, ℕ, [], length, vec_capacity, true, Some};
+ghost use Rattle.std.specs.Prelude.{◌≡◌, ◌<◌, ◌≤◌, ◌↔◌, ℕ, [], length, vec_capacity};
+ghost use Rattle.std.specs.Prelude.{Some, IsTrue};
 ghost use Rattle.sot_eval_flat.specs.FlatForm.{IsFormOf};
 ghost use Rattle.sot_tube.specs.Admitted.{Admitted};
 ghost use Rattle.sot_turn.specs.Passes.{lock_of, pass_lock, pass_ground, pass_seen};
@@ -13,6 +14,7 @@ ghost use Rattle.sot_workers.specs.Stations.{IsSent, IsAt, IsStationed, has_thre
 
 use crate::lists::NodeList;
 use crate::place::{Place, Station};
+use crate::rule::is_noted;
 use crate::seat::{give_list, take_form, take_list};
 use crate::start::start;
 use sot_board::Board;
@@ -24,8 +26,28 @@ use std::alloc::Global;
 use std::sync::Wait;
 use std::thread::{Scope, Threads};
 
-// A shift that could not be started gives its list back, and leaves its pass. One that worked all
-// the same keeps all, and the caller waits without end.
+// A shift stays with the caller: it gives its empty list back, and leaves its pass.
+fn stay<'a, C: Controller>(lists: &mut Vec<NodeList>, shift: Shift<'a, C>) -> Station<'a, C>
+    requires none { shift.drafts.items ≡ [] }
+    requires there { shift.node < length lists.old.items }
+    ensures lists { (count : ℕ) → AreEmpty count lists.old.items → AreEmpty count lists.new.items }
+    ensures station { (lock : _) (began : _) → pass_lock shift.entry.pass ≡ lock
+        → IsSent lock began result }
+{
+    let Shift {
+        node,
+        finished: _,
+        pass,
+        drafts,
+        guest: _,
+        form: _,
+    } = shift;
+    give_list(lists, node, drafts);
+    Station::Caller(pass)
+}
+
+// A shift whose thread could not be started stays with the caller. One that worked all the same
+// keeps all, and the caller waits without end.
 fn keep<'a, C: Controller, R: Wait>(
     rt: &R,
     lists: &mut Vec<NodeList>,
@@ -41,16 +63,7 @@ fn keep<'a, C: Controller, R: Wait>(
     if shift.finished {
         stop(rt);
     }
-    let Shift {
-        node,
-        finished: _,
-        pass,
-        drafts,
-        guest: _,
-        form: _,
-    } = shift;
-    give_list(lists, node, drafts);
-    Station::Refused(pass)
+    stay(lists, shift)
 }
 
 // A shift is started in a thread of its own, or comes back.
@@ -79,15 +92,37 @@ fn send<'s, 'a: 's, E, C: Controller + Send + 's, R: Threads + Wait + Sync>(
     }
 }
 
-/// Whether a node is to have a worker in a thread: it is worth it, and no guest flies it.
-pub(crate) fn is_to_leave(flight: &Flight, node: u32, worth: bool) -> bool
-    requires { node < length flight.now.crews }
-    ensures { result ≡ true → IsOwn flight.now node }
+// A shift leaves for a thread of its own, or stays with the caller.
+fn assign<'s, 'a: 's, E, C: Controller + Send + 's, R: Threads + Wait + Sync>(
+    rt: &'s R,
+    scope: &Scope<'s, E>,
+    turn: &'s Turn<Board<'a>>,
+    bells: &'s Bells,
+    lists: &mut Vec<NodeList>,
+    shift: Shift<'a, C>,
+    is_tried: bool,
+) -> Station<'a, C>
+    requires ready { IsReady (lock_of turn.now) shift }
+    requires there { shift.node < length lists.old.items }
+    ensures lists { (count : ℕ) → AreEmpty count lists.old.items → AreEmpty count lists.new.items }
+    ensures station { IsSent (lock_of turn.now) shift.entry result }
 {
-    worth && flight.guest(node).is_none()
+    if is_tried {
+        send(rt, scope, turn, bells, lists, shift)
+    } else {
+        stay(lists, shift)
+    }
 }
 
-// The worker of a node is stationed.
+// Whether no guest flies a node.
+fn is_own(flight: &Flight, node: u32) -> bool
+    requires { node < length flight.now.crews }
+    ensures { IsTrue result ↔ IsOwn flight.now node }
+{
+    flight.guest(node).is_none()
+}
+
+// The worker of a node is stationed, with a job of its own.
 fn station_of<'s, 'a: 's, E, C: Controller + Send + 's, R: Threads + Wait + Sync>(
     rt: &'s R,
     alloc: Global,
@@ -98,7 +133,7 @@ fn station_of<'s, 'a: 's, E, C: Controller + Send + 's, R: Threads + Wait + Sync
     pass: Pass<Board<'a>>,
     lists: &mut Vec<NodeList>,
     node: u32,
-    worth: bool,
+    is_tried: bool,
     form: Option<Flat>,
 ) -> (Pass<Board<'a>>, Station<'a, C>)
     requires lock { pass_lock pass ≡ lock_of turn.now }
@@ -116,8 +151,8 @@ fn station_of<'s, 'a: 's, E, C: Controller + Send + 's, R: Threads + Wait + Sync
     ensures station { (a : Admitted) → pass_ground pass.entry ≡ Some (a, flight.now)
         → IsAt (lock_of turn.now) a flight.now node result.1 }
 {
-    if !is_to_leave(flight, node, worth) {
-        return (pass, Station::Caller);
+    if !is_own(flight, node) {
+        return (pass, Station::Guest);
     }
     let (pass, other) = turn.split(pass);
     let shift = Shift {
@@ -128,12 +163,7 @@ fn station_of<'s, 'a: 's, E, C: Controller + Send + 's, R: Threads + Wait + Sync
         guest: None,
         form,
     };
-    (pass, send(rt, scope, turn, bells, lists, shift))
-}
-
-/// Whether the body of a node is noted to be long.
-pub(crate) fn is_long(long: &Vec<bool>, node: usize) -> bool {
-    node < long.len() && long[node]
+    (pass, assign(rt, scope, turn, bells, lists, shift, is_tried))
 }
 
 // Whether the worker has a thread.
@@ -141,14 +171,15 @@ fn is_thread<'a, C: Controller>(station: &Station<'a, C>) -> bool
     ensures { result ≡ has_thread station.now }
 {
     match station {
-        Station::Caller => false,
-        Station::Refused(_) => false,
+        Station::Guest => false,
+        Station::Caller(_) => false,
         Station::Thread(_) => true,
     }
 }
 
-/// The workers of the nodes that no guest flies are stationed: each that is worth it in a thread of
-/// its own, where one can be made. With each it is noted whether it has one.
+/// The workers of the nodes that no guest flies are stationed, each with a job of its own: in a
+/// thread where the start of one is to be tried and one can be made, and else with the caller. With
+/// each it is noted whether it has a thread.
 pub(crate) fn station_each<'s, 'a: 's, E, C: Controller + Send + 's, R: Threads + Wait + Sync>(
     rt: &'s R,
     alloc: Global,
@@ -156,8 +187,7 @@ pub(crate) fn station_each<'s, 'a: 's, E, C: Controller + Send + 's, R: Threads 
     turn: &'s Turn<Board<'a>>,
     bells: &'s Bells,
     flight: &Flight,
-    few: bool,
-    long: &Vec<bool>,
+    tried: &Vec<bool>,
     pass: Pass<Board<'a>>,
     lists: &mut Vec<NodeList>,
     mut forms: Vec<Option<Flat>>,
@@ -185,10 +215,10 @@ pub(crate) fn station_each<'s, 'a: 's, E, C: Controller + Send + 's, R: Threads 
     let count = lists.len();
     for place in 0..count {
         let node = lists[place].node;
-        let is_worth = few || is_long(long, place);
+        let is_tried = is_noted(tried, place);
         let form = take_form(&mut forms, node);
         let (back, station) = station_of(
-            rt, alloc, scope, turn, bells, flight, pass, lists, node, is_worth, form,
+            rt, alloc, scope, turn, bells, flight, pass, lists, node, is_tried, form,
         );
         pass = back;
         away.push_reserved(is_thread(&station));

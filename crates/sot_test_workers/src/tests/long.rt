@@ -1,4 +1,4 @@
-//! Nodes with long bodies, whose workers run in threads though the flight has many firings.
+//! Nodes with long bodies, whose workers run at once.
 
 use super::{alone, same, threads};
 

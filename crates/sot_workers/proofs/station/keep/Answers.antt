@@ -2,8 +2,8 @@ use Rattle.std.proofs.Common.{◌∙◌, ⊎_elim, ap, sym}
 use Rattle.sot_workers.proofs.station.keep.Goals.{then-shift, else-shift}
 use Rattle.sot_workers.proofs.station.keep.Goals as goal
 
-pub give_list-requires-clause-none : goal.give_list-requires-clause-none
-give_list-requires-clause-none g c =
+pub stay-requires-clause-none : goal.stay-requires-clause-none
+stay-requires-clause-none g c =
     let w = c.requires.worked in
     elim c.if-shift.branch [
       | then-shift t ↦ absurd t.stop.ensures
@@ -11,4 +11,4 @@ give_list-requires-clause-none g c =
     ]
 
 pub returns-clause-station : goal.returns-clause-station
-returns-clause-station g c = λ lock began ready worked. worked.on_shift.lock ∙ ready.lock_is
+returns-clause-station g c = λ lock began ready worked. c.stay.ensures.station lock began (worked.on_shift.lock ∙ ready.lock_is)

@@ -4,16 +4,16 @@ use Rattle.sot_workers.proofs.Placing.{ground_same}
 use Rattle.sot_workers.proofs.Stations.{node_shift, sent_at}
 use Rattle.sot_workers.proofs.station.station_of.Goals as goal
 
-pub send-requires-clause-ready : goal.send-requires-clause-ready
-send-requires-clause-ready g c κs within =
+pub assign-requires-clause-ready : goal.assign-requires-clause-ready
+assign-requires-clause-ready g c κs within =
     let known = c.requires.ground in
     let there : c.args.node < length known.0.program.nodes = omega (arith, c.requires.there, known.2) in
     (node_shift (lock_of c.args.turn.now) known.0 c.args.flight.now c.args.node _ (c.split-pass.ensures.lock.1 ∙ c.requires.lock)
-    (c.split-pass.ensures.ground.1 ∙ known.1) there (c.is_to_leave.ensures c.if-not-is_to_leave.false) c.take_list.ensures.none
+    (c.split-pass.ensures.ground.1 ∙ known.1) there (c.is_own.ensures.0 c.if-not-is_own.false) c.take_list.ensures.none
     (c.split-pass.ensures.seen.1 ∙ c.requires.seen) (c.requires.form known.0 known.1) refl refl).ready
 
-pub send-requires-clause-there : goal.send-requires-clause-there
-send-requires-clause-there g c κs within =
+pub assign-requires-clause-there : goal.assign-requires-clause-there
+assign-requires-clause-there g c κs within =
     let empty = c.take_list.ensures.lists (length c.args.flight.now.crews) c.requires.lists in
     omega (arith, empty.nodes.each, c.requires.there)
 
@@ -23,8 +23,11 @@ returns-clause-station g c = λ a is.
     let known = c.requires.ground in
     let same = (ground_same (pass_ground c.args.pass) known.0 a f f known.1 is).0 in
     let there : c.args.node < length a.program.nodes = omega (arith, c.requires.there, known.2, ap (λ x. length x.program.nodes) same) in
-    sent_at (lock_of c.args.turn.now) a f c.args.node _ c.send.result
+    sent_at (lock_of c.args.turn.now) a f c.args.node _ c.assign.result
     (node_shift (lock_of c.args.turn.now) a f c.args.node _ (c.split-pass.ensures.lock.1 ∙ c.requires.lock)
-    (c.split-pass.ensures.ground.1 ∙ is) there (c.is_to_leave.ensures c.if-not-is_to_leave.false) c.take_list.ensures.none
+    (c.split-pass.ensures.ground.1 ∙ is) there (c.is_own.ensures.0 c.if-not-is_own.false) c.take_list.ensures.none
     (c.split-pass.ensures.seen.1 ∙ c.requires.seen) (c.requires.form a is) refl refl)
-    c.send.ensures.station
+    c.assign.ensures.station
+
+pub returns-then-not-is_own-clause-station : goal.returns-then-not-is_own-clause-station
+returns-then-not-is_own-clause-station g c = λ a is own. (let yes = c.is_own.ensures.1 own in let no = c.if-not-is_own.true in absurd cc)
