@@ -1,4 +1,4 @@
-use Rattle.std.proofs.Common.{◌≡◌, ◌+◌, ◌*◌, ◌-◌, ◌^◌, min, suc, refl, sym, ap, ◌∙◌, subst, arith}
+use Rattle.std.proofs.Common.{◌*◌, ◌-◌, ◌^◌, min, refl, ap, ◌∙◌, arith}
 use Rattle.std.proofs.lemmas.Option.{slice_get_read}
 use Rattle.sot_workers.specs.Threads.{weight, statements}
 use Rattle.sot_workers.proofs.Weights.{statements_more, weight-If, weight-Repeat, times_cut}

@@ -1,6 +1,6 @@
-use Rattle.std.proofs.Common.{◌≡◌, ◌+◌, ◌<◌, length, sym, ◌∙◌, subst, arith, rules}
+use Rattle.std.proofs.Common.{◌+◌, ◌<◌, length, sym, ◌∙◌, subst, arith, rules}
 use Rattle.sot_workers.specs.Threads.{is_tried, AreNoted}
-use Rattle.sot_workers.proofs.Noted.{none_noted, noted_more}
+use Rattle.sot_workers.proofs.Noted.{noted_more}
 use Rattle.sot_workers.proofs.rule.tried_each.Goals as goal
 
 pub loop-node-preserved : goal.loop-node-preserved
