@@ -8,7 +8,8 @@ use Rattle.sot_syntax_tree.specs.declared.operator.Func.{Func}
 use Rattle.sot_syntax_tree.specs.declared.operator.Func.TheVariants.{Abs, Clamp}
 use Rattle.sot_syntax_tree.specs.declared.tree.Ident.{Ident}
 use Rattle.sot_syntax_tree.specs.declared.tree.Lit.{Lit}
-use Rattle.sot_syntax_tree.specs.Trees.{Tree, number, truth, named, binary, rest, negated, denied, called}
+use Rattle.sot_syntax_tree.specs.Trees.{Tree, number, truth, named, binary, rest, negated, denied}
+use Rattle.sot_syntax_tree.specs.Trees.{called}
 use Rattle.sot_syntax_tree.specs.Trees.{rescaled, chosen, no_tree, one_more}
 use Rattle.sot_expression.specs.declared.operators.Infix.{Infix}
 use Rattle.sot_expression.specs.declared.operators.Infix.TheVariants.{Joins, Rests}

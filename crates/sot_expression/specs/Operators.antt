@@ -3,8 +3,10 @@ use Rattle.std.specs.Prelude.{ℕ, List, [], ◌∷◌, Bool, true, false, ◌==
 use Rattle.std.specs.Prelude.{if◌then◌else◌}
 use Rattle.sot_text.specs.Reading.{Lexeme}
 use Rattle.sot_syntax_tree.specs.declared.operator.Op.{Op}
-use Rattle.sot_syntax_tree.specs.declared.operator.Op.TheVariants.{Add, Sub, Mul, Div, Less, LessEqual}
-use Rattle.sot_syntax_tree.specs.declared.operator.Op.TheVariants.{Greater, GreaterEqual, Equal, NotEqual}
+use Rattle.sot_syntax_tree.specs.declared.operator.Op.TheVariants.{Add, Sub, Mul, Div, Less}
+use Rattle.sot_syntax_tree.specs.declared.operator.Op.TheVariants.{LessEqual}
+use Rattle.sot_syntax_tree.specs.declared.operator.Op.TheVariants.{Greater, GreaterEqual, Equal}
+use Rattle.sot_syntax_tree.specs.declared.operator.Op.TheVariants.{NotEqual}
 use Rattle.sot_syntax_tree.specs.declared.operator.Op.TheVariants.{And, Or}
 use Rattle.sot_syntax_tree.specs.declared.operator.Func.TheVariants.{Min, Max}
 use Rattle.sot_expression.specs.declared.operators.Infix.{Infix}

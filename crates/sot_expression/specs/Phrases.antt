@@ -3,12 +3,15 @@ use Rattle.std.specs.Prelude.{◌≡◌, ℕ, ◌+◌, ◌<◌, ◌≤◌, max, 
 use Rattle.std.specs.Prelude.{None, Some, if◌then◌else◌}
 use Rattle.sot_text.specs.Reading.{Lexeme}
 use Rattle.sot_syntax_tree.specs.declared.operator.Op.{Op}
-use Rattle.sot_syntax_tree.specs.declared.operator.Op.TheVariants.{Add, Sub, Mul, Div, Less, LessEqual}
-use Rattle.sot_syntax_tree.specs.declared.operator.Op.TheVariants.{Greater, GreaterEqual, Equal, NotEqual}
+use Rattle.sot_syntax_tree.specs.declared.operator.Op.TheVariants.{Add, Sub, Mul, Div, Less}
+use Rattle.sot_syntax_tree.specs.declared.operator.Op.TheVariants.{LessEqual}
+use Rattle.sot_syntax_tree.specs.declared.operator.Op.TheVariants.{Greater, GreaterEqual, Equal}
+use Rattle.sot_syntax_tree.specs.declared.operator.Op.TheVariants.{NotEqual}
 use Rattle.sot_syntax_tree.specs.declared.operator.Op.TheVariants.{And, Or}
 use Rattle.sot_syntax_tree.specs.declared.operator.Func.{Func}
 use Rattle.sot_syntax_tree.specs.declared.operator.Func.TheVariants.{Min, Max, Abs, Clamp}
-use Rattle.sot_syntax_tree.specs.Trees.{Tree, number, truth, named, binary, rest, negated, denied, called}
+use Rattle.sot_syntax_tree.specs.Trees.{Tree, number, truth, named, binary, rest, negated, denied}
+use Rattle.sot_syntax_tree.specs.Trees.{called}
 use Rattle.sot_syntax_tree.specs.Trees.{rescaled, chosen, no_tree, one_more}
 use Rattle.sot_expression.specs.Lexemes.{IsKeyword, IsSign, IsName, IsNumber, begins, is_sign}
 use Rattle.sot_expression.specs.Lexemes.{ident, literal, negative_literal}

@@ -4,8 +4,10 @@ use Rattle.std.specs.Prelude.{◌&&◌, ◌||◌, not, int_lt, int_le, Ok, Err}
 use Rattle.std.specs.Int.{int_min, int_max}
 use Rattle.sot_text.specs.declared.token.Span.{Span}
 use Rattle.sot_syntax_tree.specs.declared.operator.Op.{Op}
-use Rattle.sot_syntax_tree.specs.declared.operator.Op.TheVariants.{Add, Sub, Mul, Div, Less, LessEqual}
-use Rattle.sot_syntax_tree.specs.declared.operator.Op.TheVariants.{Greater, GreaterEqual, Equal, NotEqual}
+use Rattle.sot_syntax_tree.specs.declared.operator.Op.TheVariants.{Add, Sub, Mul, Div, Less}
+use Rattle.sot_syntax_tree.specs.declared.operator.Op.TheVariants.{LessEqual}
+use Rattle.sot_syntax_tree.specs.declared.operator.Op.TheVariants.{Greater, GreaterEqual, Equal}
+use Rattle.sot_syntax_tree.specs.declared.operator.Op.TheVariants.{NotEqual}
 use Rattle.sot_syntax_tree.specs.declared.operator.Op.TheVariants.{And, Or}
 use Rattle.sot_lang.specs.declared.trap.TrapKind.TheVariants.{ZeroDivisor, Wide}
 use Rattle.sot_box.specs.Sides.{Side}

@@ -10,10 +10,13 @@ use Rattle.sot_syntax_tree.specs.declared.tree.Lit.{Lit}
 use Rattle.sot_syntax_tree.specs.declared.tree.Bounds.{Bounds}
 use Rattle.sot_syntax_tree.specs.declared.tree.Scalar.TheVariants.{Int, Fix, Bool as Truths}
 use Rattle.sot_syntax_tree.specs.declared.tree.Const.TheVariants.{Number, Truth}
-use Rattle.sot_syntax_tree.specs.Trees.{Tree, number, truth, named, binary, rest, negated, denied, called}
-use Rattle.sot_syntax_tree.specs.Trees.{rescaled, chosen, no_tree, one_more, Statement, Block, assigned}
+use Rattle.sot_syntax_tree.specs.Trees.{Tree, number, truth, named, binary, rest, negated, denied}
+use Rattle.sot_syntax_tree.specs.Trees.{called}
+use Rattle.sot_syntax_tree.specs.Trees.{rescaled, chosen, no_tree, one_more, Statement, Block}
+use Rattle.sot_syntax_tree.specs.Trees.{assigned}
 use Rattle.sot_syntax_tree.specs.Trees.{published, branched, repeated, no_statement, statement, one}
-use Rattle.sot_syntax_tree.specs.Trees.{fields, one_value, values, Topic, Plant, Node, Module, Declaration}
+use Rattle.sot_syntax_tree.specs.Trees.{fields, one_value, values, Topic, Plant, Node, Module}
+use Rattle.sot_syntax_tree.specs.Trees.{Declaration}
 use Rattle.sot_syntax_tree.specs.Trees.{a_topic, a_plant, a_node, a_module, Program}
 use Rattle.sot_parser.specs.Pieces.{Keyword, Sign}
 use Rattle.sot_parser.specs.Statements.{braces, no_else, with_else, no_more, else_of}

@@ -3,7 +3,8 @@ use Rattle.std.specs.Prelude.{◌≡◌, ℕ, ◌≤◌, pos, negsuc, ◌≤ℤ�
 use Rattle.sot_lists.specs.Places.{At}
 use Rattle.sot_box.specs.Sides.{Side, AreOrdered}
 use Rattle.sot_box.specs.BoxList.{BoxList}
-use Rattle.sot_syntax_tree.specs.Trees.{Area, Module, Declaration, a_topic, a_plant, a_node, a_module}
+use Rattle.sot_syntax_tree.specs.Trees.{Area, Module, Declaration, a_topic, a_plant, a_node}
+use Rattle.sot_syntax_tree.specs.Trees.{a_module}
 use Rattle.sot_regions_rewrite.specs.declared.modules.ModuleRegions.{ModuleRegions}
 use Rattle.sot_regions_rewrite.specs.OtherRegions.{left_behind}
 

@@ -1,6 +1,7 @@
 -- Programs without the regions of their modules.
 use Rattle.std.specs.Prelude.{◌≡◌, [], map}
-use Rattle.sot_syntax_tree.specs.Trees.{Module, Declaration, a_topic, a_plant, a_node, a_module, Program}
+use Rattle.sot_syntax_tree.specs.Trees.{Module, Declaration, a_topic, a_plant, a_node, a_module}
+use Rattle.sot_syntax_tree.specs.Trees.{Program}
 
 abbrev pub bare_module : Module → Module
 bare_module m = record {

@@ -11,8 +11,10 @@ use Rattle.sot_syntax_tree.specs.declared.tree.Field.{Field}
 use Rattle.sot_syntax_tree.specs.declared.tree.Const.{Const}
 use Rattle.sot_syntax_tree.specs.declared.tree.Const.TheVariants as consts
 use Rattle.sot_syntax_tree.specs.declared.tree.StateDecl.{StateDecl}
-use Rattle.sot_syntax_tree.specs.Trees.{Block, Form, one, fields, Start, one_value, values, Topic, Next}
-use Rattle.sot_syntax_tree.specs.Trees.{Local, Plant, Node, Area, Module, Declaration, a_topic, a_plant}
+use Rattle.sot_syntax_tree.specs.Trees.{Block, Form, one, fields, Start, one_value, values, Topic}
+use Rattle.sot_syntax_tree.specs.Trees.{Next}
+use Rattle.sot_syntax_tree.specs.Trees.{Local, Plant, Node, Area, Module, Declaration, a_topic}
+use Rattle.sot_syntax_tree.specs.Trees.{a_plant}
 use Rattle.sot_syntax_tree.specs.Trees.{a_node, a_module, Program}
 use Rattle.sot_expression.specs.Lexemes.{begins, is_sign, is_keyword}
 use Rattle.sot_expression.specs.Readers.{Read, ◌>>=◌, expect, name_at, number_at, literal_at}

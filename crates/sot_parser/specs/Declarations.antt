@@ -4,7 +4,8 @@ use Rattle.std.specs.Prelude.{Some}
 use Rattle.sot_text.specs.Reading.{Lexeme}
 use Rattle.sot_syntax_tree.specs.declared.tree.Lit.{Lit}
 use Rattle.sot_syntax_tree.specs.declared.tree.StateDecl.{StateDecl}
-use Rattle.sot_syntax_tree.specs.Trees.{Form, one, fields, Start, one_value, values, Topic, Next, Local}
+use Rattle.sot_syntax_tree.specs.Trees.{Form, one, fields, Start, one_value, values, Topic, Next}
+use Rattle.sot_syntax_tree.specs.Trees.{Local}
 use Rattle.sot_syntax_tree.specs.Trees.{Plant, Node, Area, Module, Declaration}
 use Rattle.sot_syntax_tree.specs.Trees as trees
 use Rattle.sot_parser.specs.Pieces.{Keyword, Sign, Named, name_of, number_of, spelled_keyword, each}

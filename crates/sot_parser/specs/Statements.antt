@@ -2,7 +2,8 @@
 use Rattle.std.specs.Prelude.{ℕ, ◌+◌, max, List, ◌∷◌, codes, Option, None, Some}
 use Rattle.sot_text.specs.Reading.{Lexeme}
 use Rattle.sot_syntax_tree.specs.declared.tree.Ident.{Ident}
-use Rattle.sot_syntax_tree.specs.Trees.{Tree, Statement, Block, assigned, published, branched, repeated}
+use Rattle.sot_syntax_tree.specs.Trees.{Tree, Statement, Block, assigned, published, branched}
+use Rattle.sot_syntax_tree.specs.Trees.{repeated}
 use Rattle.sot_syntax_tree.specs.Trees.{no_statement, statement}
 use Rattle.sot_parser.specs.Pieces.{Keyword, Sign, Named, Digits, name_of, number_of, maybe}
 use Rattle.sot_expression.specs.Phrases.{Phrase, IsPhrase}

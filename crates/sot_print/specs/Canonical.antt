@@ -5,8 +5,10 @@ use Rattle.sot_syntax_tree.specs.declared.tree.Ident.{Ident}
 use Rattle.sot_syntax_tree.specs.declared.tree.Lit.{Lit}
 use Rattle.sot_syntax_tree.specs.declared.tree.Field.{Field}
 use Rattle.sot_syntax_tree.specs.declared.tree.StateDecl.{StateDecl}
-use Rattle.sot_syntax_tree.specs.Trees.{Block, Form, one, fields, Start, one_value, values, Topic, Next}
-use Rattle.sot_syntax_tree.specs.Trees.{Local, Plant, Node, Area, Module, Declaration, a_topic, a_plant}
+use Rattle.sot_syntax_tree.specs.Trees.{Block, Form, one, fields, Start, one_value, values, Topic}
+use Rattle.sot_syntax_tree.specs.Trees.{Next}
+use Rattle.sot_syntax_tree.specs.Trees.{Local, Plant, Node, Area, Module, Declaration, a_topic}
+use Rattle.sot_syntax_tree.specs.Trees.{a_plant}
 use Rattle.sot_syntax_tree.specs.Trees.{a_node, a_module, Program}
 use Rattle.sot_print.specs.declared.gap.Gap.{Gap}
 use Rattle.sot_print.specs.declared.gap.Gap.TheVariants.{Touching, Space, Line}

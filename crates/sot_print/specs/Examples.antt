@@ -9,10 +9,13 @@ use Rattle.sot_syntax_tree.specs.declared.tree.Lit.{Lit}
 use Rattle.sot_syntax_tree.specs.declared.tree.Bounds.{Bounds}
 use Rattle.sot_syntax_tree.specs.declared.tree.Scalar.TheVariants.{Int, Fix, Bool}
 use Rattle.sot_syntax_tree.specs.declared.tree.Const.TheVariants.{Number, Truth}
-use Rattle.sot_syntax_tree.specs.Trees.{Tree, number, truth, named, binary, rest, negated, denied, called}
-use Rattle.sot_syntax_tree.specs.Trees.{rescaled, chosen, no_tree, one_more, Block, assigned, published}
+use Rattle.sot_syntax_tree.specs.Trees.{Tree, number, truth, named, binary, rest, negated, denied}
+use Rattle.sot_syntax_tree.specs.Trees.{called}
+use Rattle.sot_syntax_tree.specs.Trees.{rescaled, chosen, no_tree, one_more, Block, assigned}
+use Rattle.sot_syntax_tree.specs.Trees.{published}
 use Rattle.sot_syntax_tree.specs.Trees.{branched, repeated, no_statement, statement, one, fields}
-use Rattle.sot_syntax_tree.specs.Trees.{one_value, values, Declaration, a_topic, a_plant, a_node, a_module}
+use Rattle.sot_syntax_tree.specs.Trees.{one_value, values, Declaration, a_topic, a_plant, a_node}
+use Rattle.sot_syntax_tree.specs.Trees.{a_module}
 use Rattle.sot_print.specs.declared.gap.Gap.TheVariants.{Touching}
 use Rattle.sot_print.specs.Words.{laid}
 use Rattle.sot_print.specs.Leaves.{literal_words}

@@ -1,13 +1,17 @@
 -- The words of expressions. The gap is what stands before the first word.
 use Rattle.std.specs.Prelude.{ℕ, Bool, true, false, if◌then◌else◌, List, [], ◌∷◌, ◌++◌, codes}
 use Rattle.sot_syntax_tree.specs.declared.operator.Op.{Op}
-use Rattle.sot_syntax_tree.specs.declared.operator.Op.TheVariants.{Add, Sub, Mul, Div, Less, LessEqual}
-use Rattle.sot_syntax_tree.specs.declared.operator.Op.TheVariants.{Greater, GreaterEqual, Equal, NotEqual}
+use Rattle.sot_syntax_tree.specs.declared.operator.Op.TheVariants.{Add, Sub, Mul, Div, Less}
+use Rattle.sot_syntax_tree.specs.declared.operator.Op.TheVariants.{LessEqual}
+use Rattle.sot_syntax_tree.specs.declared.operator.Op.TheVariants.{Greater, GreaterEqual, Equal}
+use Rattle.sot_syntax_tree.specs.declared.operator.Op.TheVariants.{NotEqual}
 use Rattle.sot_syntax_tree.specs.declared.operator.Op.TheVariants.{And, Or}
 use Rattle.sot_syntax_tree.specs.declared.operator.Func.{Func}
 use Rattle.sot_syntax_tree.specs.declared.operator.Func.TheVariants.{Min, Max, Abs, Clamp}
-use Rattle.sot_syntax_tree.specs.Trees.{Tree, Trees, number, truth as truth_value, named, binary, rest}
-use Rattle.sot_syntax_tree.specs.Trees.{negated, denied, called, rescaled, chosen, no_tree, one_more}
+use Rattle.sot_syntax_tree.specs.Trees.{Tree, Trees, number, truth as truth_value, named, binary}
+use Rattle.sot_syntax_tree.specs.Trees.{rest}
+use Rattle.sot_syntax_tree.specs.Trees.{negated, denied, called, rescaled, chosen, no_tree}
+use Rattle.sot_syntax_tree.specs.Trees.{one_more}
 use Rattle.sot_print.specs.declared.gap.Gap.{Gap}
 use Rattle.sot_print.specs.declared.gap.Gap.TheVariants.{Touching, Space}
 use Rattle.sot_print.specs.Words.{Word, keyword, sign}

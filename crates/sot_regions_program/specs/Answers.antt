@@ -29,7 +29,8 @@ use Rattle.sot_regions_rewrite.specs.OtherRegions.{with_regions}
 use Rattle.sot_regions_program.specs.Lines.{refusal_line}
 use Rattle.sot_regions_program.specs.declared.refusal.RegionsRefusal.{RegionsRefusal}
 use Rattle.sot_regions_program.specs.declared.refusal.RegionsRefusal.TheVariants.{Jitter, SafeNone}
-use Rattle.sot_regions_program.specs.declared.refusal.RegionsRefusal.TheVariants.{TooMany, SaferNone}
+use Rattle.sot_regions_program.specs.declared.refusal.RegionsRefusal.TheVariants.{TooMany}
+use Rattle.sot_regions_program.specs.declared.refusal.RegionsRefusal.TheVariants.{SaferNone}
 use Rattle.sot_regions_program.specs.AsAsked.{IsLate, as_asked, IsSearched}
 use Rattle.sot_regions_program.specs.Findings.{IsInside, AreFirstFound, AreFound}
 use Rattle.sot_law_invariant_regions.specs.Shown.{IsShown}

@@ -6,7 +6,8 @@ use Rattle.sot_lang.specs.Names.{module_name}
 use Rattle.sot_report.specs.Pieces.{line, point_text}
 use Rattle.sot_regions_program.specs.declared.refusal.RegionsRefusal.{RegionsRefusal}
 use Rattle.sot_regions_program.specs.declared.refusal.RegionsRefusal.TheVariants.{Jitter, SafeNone}
-use Rattle.sot_regions_program.specs.declared.refusal.RegionsRefusal.TheVariants.{TooMany, SaferNone}
+use Rattle.sot_regions_program.specs.declared.refusal.RegionsRefusal.TheVariants.{TooMany}
+use Rattle.sot_regions_program.specs.declared.refusal.RegionsRefusal.TheVariants.{SaferNone}
 
 abbrev pub usage_text : List ℕ
 usage_text = line (codes "usage: soter_regions [JITTER]")

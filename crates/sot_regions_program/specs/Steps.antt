@@ -20,7 +20,8 @@ use Rattle.sot_regions.specs.declared.found.RegionsFail.{RegionsFail}
 use Rattle.sot_regions.specs.declared.found.RegionsFail.TheVariants as causes
 use Rattle.sot_regions_program.specs.declared.refusal.RegionsRefusal.{RegionsRefusal}
 use Rattle.sot_regions_program.specs.declared.refusal.RegionsRefusal.TheVariants.{Jitter, SafeNone}
-use Rattle.sot_regions_program.specs.declared.refusal.RegionsRefusal.TheVariants.{TooMany, SaferNone}
+use Rattle.sot_regions_program.specs.declared.refusal.RegionsRefusal.TheVariants.{TooMany}
+use Rattle.sot_regions_program.specs.declared.refusal.RegionsRefusal.TheVariants.{SaferNone}
 use Rattle.sot_regions_program.specs.Words.{Asks, AsksNone}
 use Rattle.sot_regions_program.specs.Lines.{usage_text}
 use Rattle.sot_cli.specs.Steps.{InputAnswer, SilentWhere}

@@ -2,7 +2,8 @@
 use Rattle.std.specs.Prelude.{ℤ, List, [], ◌∷◌, map, zip}
 use Rattle.sot_syntax_tree.specs.declared.tree.Lit.{Lit}
 use Rattle.sot_syntax_tree.specs.declared.tree.Bounds.{Bounds}
-use Rattle.sot_syntax_tree.specs.Trees.{Area, Module, Declaration, a_topic, a_plant, a_node, a_module}
+use Rattle.sot_syntax_tree.specs.Trees.{Area, Module, Declaration, a_topic, a_plant, a_node}
+use Rattle.sot_syntax_tree.specs.Trees.{a_module}
 use Rattle.sot_syntax_tree.specs.Trees.{Program}
 use Rattle.sot_box.specs.Sides.{Side}
 use Rattle.sot_regions_rewrite.specs.declared.modules.ModuleRegions.{ModuleRegions}

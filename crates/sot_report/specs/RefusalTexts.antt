@@ -102,7 +102,7 @@ refusal_text t r =
 abbrev pub gap_line : List ℕ → Tables → ℕ → List ℤ → List ℕ
 gap_line what t m point = line (codes "refused " ++ what ++ in_module t m ++ at_point point)
 
--- a flight is refused, since the plant of this module, the first one, starts at this point outside
--- the module's safer region
+-- a start is refused, since the plant of this module, the first one, starts at this point outside
+-- the region that the caller asks it to start in
 abbrev pub start_text : Tables → ℕ → List ℤ → List ℕ
 start_text t m point = gap_line (codes "start") t m point

@@ -307,8 +307,8 @@ pub fn refusal_text(alloc: Global, p: &Typed, refusal: &Refusal) -> Result<Vec<u
     Ok(text)
 }
 
-/// The line of a flight that is refused, since this module's plant starts at a point outside the
-/// module's safer region.
+/// The line of a start that is refused: this module's plant starts at a point outside the region
+/// that the caller asks it to start in.
 pub fn start_text(alloc: Global, p: &Typed, module: u32, at: &Point) -> Result<Vec<u8>, AllocError>
     ensures { IfOk result (λ text. text.items ≡ start_text p.now «module» at.now) }
 {

@@ -16,8 +16,10 @@ use Rattle.sot_syntax_tree.specs.declared.tree.Const.{Const}
 use Rattle.sot_syntax_tree.specs.declared.tree.Field.{Field}
 use Rattle.sot_syntax_tree.specs.declared.tree.StateDecl.{StateDecl}
 use Rattle.sot_syntax_tree.specs.Trees.{Tree, Trees, named, binary, rest, negated, denied, called}
-use Rattle.sot_syntax_tree.specs.Trees.{rescaled, chosen, one_more, Statement, Block, assigned, published}
-use Rattle.sot_syntax_tree.specs.Trees.{branched, repeated, statement, Topic, Plant, Node, Module, Local}
+use Rattle.sot_syntax_tree.specs.Trees.{rescaled, chosen, one_more, Statement, Block, assigned}
+use Rattle.sot_syntax_tree.specs.Trees.{published}
+use Rattle.sot_syntax_tree.specs.Trees.{branched, repeated, statement, Topic, Plant, Node, Module}
+use Rattle.sot_syntax_tree.specs.Trees.{Local}
 use Rattle.sot_syntax_tree.specs.Trees.{Next, Area, Declaration, a_topic, a_plant, a_node, a_module}
 use Rattle.sot_syntax_tree.specs.Trees.{Program}
 use Rattle.sot_rules.specs.declared.fault.TypeKind.{TypeKind}

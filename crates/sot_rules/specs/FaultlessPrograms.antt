@@ -5,8 +5,10 @@ use Rattle.sot_syntax_tree.specs.declared.operator.Func.TheVariants.{Min}
 use Rattle.sot_syntax_tree.specs.declared.tree.Scalar.TheVariants.{Int, Fix, Bool as BoolScalar}
 use Rattle.sot_syntax_tree.specs.declared.tree.Const.TheVariants.{Number, Truth}
 use Rattle.sot_syntax_tree.specs.Trees.{number, named, binary, rest, denied, called, rescaled}
-use Rattle.sot_syntax_tree.specs.Trees.{chosen, no_tree, one_more, assigned, published, branched, repeated}
-use Rattle.sot_syntax_tree.specs.Trees.{no_statement, statement, one, fields, one_value, values, a_topic}
+use Rattle.sot_syntax_tree.specs.Trees.{chosen, no_tree, one_more, assigned, published, branched}
+use Rattle.sot_syntax_tree.specs.Trees.{repeated}
+use Rattle.sot_syntax_tree.specs.Trees.{no_statement, statement, one, fields, one_value, values}
+use Rattle.sot_syntax_tree.specs.Trees.{a_topic}
 use Rattle.sot_syntax_tree.specs.Trees.{a_plant, a_node, a_module, Program}
 use Rattle.sot_rules.specs.ExampleParts.{at, word, decimal, whole, range}
 

@@ -6,7 +6,8 @@ use Rattle.sot_syntax_tree.specs.declared.tree.Scalar.TheVariants.{Int, Fix, Boo
 use Rattle.sot_syntax_tree.specs.declared.tree.Const.TheVariants.{Number, Truth}
 use Rattle.sot_syntax_tree.specs.Trees.{number, truth, named, binary}
 use Rattle.sot_syntax_tree.specs.Trees.{chosen, published, repeated}
-use Rattle.sot_syntax_tree.specs.Trees.{no_statement, statement, one, fields, one_value, values, a_topic}
+use Rattle.sot_syntax_tree.specs.Trees.{no_statement, statement, one, fields, one_value, values}
+use Rattle.sot_syntax_tree.specs.Trees.{a_topic}
 use Rattle.sot_syntax_tree.specs.Trees.{a_plant, a_node, a_module, Program}
 use Rattle.sot_rules.specs.ExampleParts.{at, word, decimal, whole, range}
 

@@ -6,7 +6,8 @@ use Rattle.sot_text.specs.declared.token.Span.{Span}
 use Rattle.sot_syntax_tree.specs.declared.tree.Ident.{Ident}
 use Rattle.sot_syntax_tree.specs.declared.tree.Field.{Field}
 use Rattle.sot_syntax_tree.specs.declared.tree.StateDecl.{StateDecl}
-use Rattle.sot_syntax_tree.specs.Trees.{Form, one, fields, Topic, Plant, Node, Local, Declaration, a_topic}
+use Rattle.sot_syntax_tree.specs.Trees.{Form, one, fields, Topic, Plant, Node, Local, Declaration}
+use Rattle.sot_syntax_tree.specs.Trees.{a_topic}
 use Rattle.sot_syntax_tree.specs.Trees.{a_plant, a_node, Program}
 pub use Rattle.sot_names.specs.Names.{declared_name}
 use Rattle.sot_rules.specs.declared.expressions.sort.Sort.{Sort}

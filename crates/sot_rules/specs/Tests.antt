@@ -12,8 +12,10 @@ use Rattle.sot_syntax_tree.specs.declared.tree.Scalar.TheVariants.{Int, Fix}
 use Rattle.sot_syntax_tree.specs.declared.tree.Const.{Const}
 use Rattle.sot_syntax_tree.specs.declared.tree.Const.TheVariants.{Number, Truth}
 use Rattle.sot_syntax_tree.specs.declared.tree.StateDecl.{StateDecl}
-use Rattle.sot_syntax_tree.specs.Trees.{Form, one, fields, Start, one_value, values, Topic, Plant, Node}
-use Rattle.sot_syntax_tree.specs.Trees.{Area, Declaration, a_topic, a_plant, a_node, a_module, Program}
+use Rattle.sot_syntax_tree.specs.Trees.{Form, one, fields, Start, one_value, values, Topic, Plant}
+use Rattle.sot_syntax_tree.specs.Trees.{Node}
+use Rattle.sot_syntax_tree.specs.Trees.{Area, Declaration, a_topic, a_plant, a_node, a_module}
+use Rattle.sot_syntax_tree.specs.Trees.{Program}
 use Rattle.sot_syntax_tree.specs.Trees.{Statement, Block, assigned, published, branched, repeated}
 use Rattle.sot_syntax_tree.specs.Trees.{no_statement, statement}
 use Rattle.sot_rules.specs.declared.expressions.sort.Sort.{Sort}

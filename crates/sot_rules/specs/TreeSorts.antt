@@ -2,7 +2,8 @@
 use Rattle.std.specs.Prelude.{nat_lt, ◌==◌, Bool, not, ◌||◌, List, [], ◌∷◌, nat_abs}
 use Rattle.std.specs.List.{list_any}
 use Rattle.sot_syntax_tree.specs.declared.tree.Lit.{Lit}
-use Rattle.sot_syntax_tree.specs.Trees.{Tree, Trees, number, truth, named, binary, rest, negated, denied}
+use Rattle.sot_syntax_tree.specs.Trees.{Tree, Trees, number, truth, named, binary, rest, negated}
+use Rattle.sot_syntax_tree.specs.Trees.{denied}
 use Rattle.sot_syntax_tree.specs.Trees.{called, rescaled, chosen, no_tree, one_more}
 use Rattle.sot_rules.specs.declared.expressions.sort.Sort.{Sort}
 use Rattle.sot_rules.specs.declared.expressions.sort.Sort.TheVariants.{Scaled, Truthful}

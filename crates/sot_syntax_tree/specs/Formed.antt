@@ -13,11 +13,16 @@ use Rattle.sot_syntax_tree.specs.declared.tree.Field.{Field}
 use Rattle.sot_syntax_tree.specs.declared.tree.Const.{Const}
 use Rattle.sot_syntax_tree.specs.declared.tree.Const.TheVariants.{Number, Truth}
 use Rattle.sot_syntax_tree.specs.declared.tree.StateDecl.{StateDecl}
-use Rattle.sot_syntax_tree.specs.Trees.{Tree, Trees, number, truth, named, binary, rest, negated, denied}
-use Rattle.sot_syntax_tree.specs.Trees.{called, rescaled, chosen, no_tree, one_more, Statement, Block}
-use Rattle.sot_syntax_tree.specs.Trees.{assigned, published, branched, repeated, no_statement, statement}
-use Rattle.sot_syntax_tree.specs.Trees.{Form, one, fields, Start, one_value, values, Topic, Next, Local}
-use Rattle.sot_syntax_tree.specs.Trees.{Plant, Node, Area, Module, Declaration, a_topic, a_plant, a_node}
+use Rattle.sot_syntax_tree.specs.Trees.{Tree, Trees, number, truth, named, binary, rest, negated}
+use Rattle.sot_syntax_tree.specs.Trees.{denied}
+use Rattle.sot_syntax_tree.specs.Trees.{called, rescaled, chosen, no_tree, one_more, Statement}
+use Rattle.sot_syntax_tree.specs.Trees.{Block}
+use Rattle.sot_syntax_tree.specs.Trees.{assigned, published, branched, repeated, no_statement}
+use Rattle.sot_syntax_tree.specs.Trees.{statement}
+use Rattle.sot_syntax_tree.specs.Trees.{Form, one, fields, Start, one_value, values, Topic, Next}
+use Rattle.sot_syntax_tree.specs.Trees.{Local}
+use Rattle.sot_syntax_tree.specs.Trees.{Plant, Node, Area, Module, Declaration, a_topic, a_plant}
+use Rattle.sot_syntax_tree.specs.Trees.{a_node}
 use Rattle.sot_syntax_tree.specs.Trees.{a_module, Program}
 
 abbrev pub Each : {A : Type 0} → (A → Type 0) → List A → Type 0

@@ -1,10 +1,13 @@
 -- The trees that the code holds, as contracts see them.
 use Rattle.std.specs.Prelude.{List, [], ◌∷◌, map, Option, None, Some}
-use Rattle.sot_syntax_tree.specs.declared.tree.Expr.{Expr, Number, Truth, Name, Member, Binary', Rest'}
+use Rattle.sot_syntax_tree.specs.declared.tree.Expr.{Expr, Number, Truth, Name, Member, Binary'}
+use Rattle.sot_syntax_tree.specs.declared.tree.Expr.{Rest'}
 use Rattle.sot_syntax_tree.specs.declared.tree.Expr.{Neg', Not', Call', Rescale', If', Row_of-Expr}
 use Rattle.sot_syntax_tree.specs.declared.tree.Expr.{end_of-Expr, more_of-Expr}
-use Rattle.sot_syntax_tree.specs.declared.tree.Stmt.{Stmt, Assign, Publish, PublishField, If' as IfStmt'}
-use Rattle.sot_syntax_tree.specs.declared.tree.Stmt.{Repeat', Row_of-Stmt, end_of-Stmt, more_of-Stmt}
+use Rattle.sot_syntax_tree.specs.declared.tree.Stmt.{Stmt, Assign, Publish, PublishField}
+use Rattle.sot_syntax_tree.specs.declared.tree.Stmt.{If' as IfStmt'}
+use Rattle.sot_syntax_tree.specs.declared.tree.Stmt.{Repeat', Row_of-Stmt, end_of-Stmt}
+use Rattle.sot_syntax_tree.specs.declared.tree.Stmt.{more_of-Stmt}
 use Rattle.sot_syntax_tree.specs.declared.tree.Shape.{Shape}
 use Rattle.sot_syntax_tree.specs.declared.tree.Shape.TheVariants as shapes
 use Rattle.sot_syntax_tree.specs.declared.tree.Init.{Init}
@@ -19,11 +22,16 @@ use Rattle.sot_syntax_tree.specs.declared.tree.ModuleDecl.{ModuleDecl}
 use Rattle.sot_syntax_tree.specs.declared.tree.Decl.{Decl}
 use Rattle.sot_syntax_tree.specs.declared.tree.Decl.TheVariants as decls
 use Rattle.sot_syntax_tree.specs.declared.tree.Program.{Program as CodeProgram}
-use Rattle.sot_syntax_tree.specs.Trees.{Tree, Trees, number, truth, named, binary, rest, negated, denied}
-use Rattle.sot_syntax_tree.specs.Trees.{called, rescaled, chosen, no_tree, one_more, Statement, Block}
-use Rattle.sot_syntax_tree.specs.Trees.{assigned, published, branched, repeated, no_statement, statement}
-use Rattle.sot_syntax_tree.specs.Trees.{Form, one, fields, Start, one_value, values, Topic, Next, Local}
-use Rattle.sot_syntax_tree.specs.Trees.{Plant, Node, Area, Module, Declaration, a_topic, a_plant, a_node}
+use Rattle.sot_syntax_tree.specs.Trees.{Tree, Trees, number, truth, named, binary, rest, negated}
+use Rattle.sot_syntax_tree.specs.Trees.{denied}
+use Rattle.sot_syntax_tree.specs.Trees.{called, rescaled, chosen, no_tree, one_more, Statement}
+use Rattle.sot_syntax_tree.specs.Trees.{Block}
+use Rattle.sot_syntax_tree.specs.Trees.{assigned, published, branched, repeated, no_statement}
+use Rattle.sot_syntax_tree.specs.Trees.{statement}
+use Rattle.sot_syntax_tree.specs.Trees.{Form, one, fields, Start, one_value, values, Topic, Next}
+use Rattle.sot_syntax_tree.specs.Trees.{Local}
+use Rattle.sot_syntax_tree.specs.Trees.{Plant, Node, Area, Module, Declaration, a_topic, a_plant}
+use Rattle.sot_syntax_tree.specs.Trees.{a_node}
 use Rattle.sot_syntax_tree.specs.Trees.{a_module, Program}
 
 abbrev mutual

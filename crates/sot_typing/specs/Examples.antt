@@ -1,14 +1,18 @@
 -- Worked programs and their tables. Each stands on one line; what they should give was computed by
 -- another program.
 use Rattle.std.specs.Prelude.{pos, negsuc, true, false, [], ◌∷◌, Some, None, codes}
-use Rattle.sot_syntax_tree.specs.declared.operator.Op.TheVariants.{Add, And, Greater, Less, Mul, Sub}
+use Rattle.sot_syntax_tree.specs.declared.operator.Op.TheVariants.{Add, And, Greater, Less, Mul}
+use Rattle.sot_syntax_tree.specs.declared.operator.Op.TheVariants.{Sub}
 use Rattle.sot_syntax_tree.specs.declared.operator.Func.TheVariants.{Min}
 use Rattle.sot_syntax_tree.specs.declared.tree.Scalar.TheVariants.{Int, Fix, Bool as BoolScalar}
 use Rattle.sot_syntax_tree.specs.declared.tree.Const.TheVariants.{Number, Truth}
 use Rattle.sot_lang.specs.declared.tables.Slot.TheVariants.{Scalar as ScalarSlot, State}
-use Rattle.sot_syntax_tree.specs.Trees.{number, named, binary, rest, negated, denied, called, rescaled}
-use Rattle.sot_syntax_tree.specs.Trees.{chosen, no_tree, one_more, assigned, published, branched, repeated}
-use Rattle.sot_syntax_tree.specs.Trees.{no_statement, statement, one, fields, one_value, values, a_topic}
+use Rattle.sot_syntax_tree.specs.Trees.{number, named, binary, rest, negated, denied, called}
+use Rattle.sot_syntax_tree.specs.Trees.{rescaled}
+use Rattle.sot_syntax_tree.specs.Trees.{chosen, no_tree, one_more, assigned, published, branched}
+use Rattle.sot_syntax_tree.specs.Trees.{repeated}
+use Rattle.sot_syntax_tree.specs.Trees.{no_statement, statement, one, fields, one_value, values}
+use Rattle.sot_syntax_tree.specs.Trees.{a_topic}
 use Rattle.sot_syntax_tree.specs.Trees.{a_plant, a_node, a_module, Program}
 use Rattle.sot_rules.specs.ExampleParts.{at, word, decimal, whole, range}
 use Rattle.sot_typing.specs.Formulas as to

@@ -3,7 +3,8 @@
 use Rattle.std.specs.Prelude.{◌≡◌, ℕ, ◌≤◌, ◌<◌, true, [], Some, nat_abs}
 use Rattle.std.specs.List.{All}
 use Rattle.sot_lists.specs.Places.{At}
-use Rattle.sot_syntax_tree.specs.Trees.{Topic, Plant, Node, Module, Declaration, a_topic, a_plant, a_node}
+use Rattle.sot_syntax_tree.specs.Trees.{Topic, Plant, Node, Module, Declaration, a_topic, a_plant}
+use Rattle.sot_syntax_tree.specs.Trees.{a_node}
 use Rattle.sot_syntax_tree.specs.Trees.{a_module, Program}
 use Rattle.sot_rules.specs.Names.{meaning, is_plant, is_node, plant_scope, node_scope}
 use Rattle.sot_rules.specs.Faults.{together, plant_lists, node_lists}

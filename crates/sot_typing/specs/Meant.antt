@@ -3,7 +3,8 @@ use Rattle.std.specs.Prelude.{◌≡◌, ℕ, ◌+◌, ◌≤◌, List, length, 
 use Rattle.std.specs.List.{position_or_len}
 use Rattle.sot_lists.specs.Places.{At}
 use Rattle.sot_syntax_tree.specs.declared.tree.Ident.{Ident}
-use Rattle.sot_syntax_tree.specs.Trees.{Plant, Declaration, a_topic, a_plant, a_node, a_module, Program}
+use Rattle.sot_syntax_tree.specs.Trees.{Plant, Declaration, a_topic, a_plant, a_node, a_module}
+use Rattle.sot_syntax_tree.specs.Trees.{Program}
 use Rattle.sot_rules.specs.declared.names.index.Index.{Index}
 use Rattle.sot_rules.specs.Indexes.{program_in, IsIndex}
 use Rattle.sot_rules.specs.Lists.{are_same}

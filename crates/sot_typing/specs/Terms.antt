@@ -4,9 +4,12 @@ use Rattle.std.specs.Prelude.{flat_map, Option, Some, None, nat_abs}
 use Rattle.std.specs.List.{position_or_len}
 use Rattle.std.specs.Str.{bytes_eq}
 use Rattle.sot_syntax_tree.specs.declared.tree.Ident.{Ident}
-use Rattle.sot_syntax_tree.specs.Trees.{Tree, Trees, number, truth, named, binary, rest, negated, denied}
-use Rattle.sot_syntax_tree.specs.Trees.{called, rescaled, chosen, no_tree, one_more, Statement, Block}
-use Rattle.sot_syntax_tree.specs.Trees.{assigned, published, branched, repeated, no_statement, statement}
+use Rattle.sot_syntax_tree.specs.Trees.{Tree, Trees, number, truth, named, binary, rest, negated}
+use Rattle.sot_syntax_tree.specs.Trees.{denied}
+use Rattle.sot_syntax_tree.specs.Trees.{called, rescaled, chosen, no_tree, one_more, Statement}
+use Rattle.sot_syntax_tree.specs.Trees.{Block}
+use Rattle.sot_syntax_tree.specs.Trees.{assigned, published, branched, repeated, no_statement}
+use Rattle.sot_syntax_tree.specs.Trees.{statement}
 use Rattle.sot_rules.specs.declared.expressions.sort.Sort.{Sort}
 use Rattle.sot_rules.specs.declared.expressions.sort.Sort.TheVariants.{Scaled, Truthful, Anything}
 use Rattle.sot_rules.specs.Names.{Parts, alone, several, Thing, Scope}

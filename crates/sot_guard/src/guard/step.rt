@@ -1,6 +1,7 @@
 //! What a guard does in an instant, and what it makes of the next observations.
 
-ghost use Rattle.std.specs.Prelude.{◌≡◌, ℕ, ◌<◌, length, true, false, List, None, take, MatchOption};
+ghost use Rattle.std.specs.Prelude.{◌≡◌, ℕ, ◌<◌, length, true, false, List, None, take};
+ghost use Rattle.std.specs.Prelude.{MatchOption};
 ghost use Rattle.sot_lists.specs.Places.{At};
 ghost use Rattle.sot_lang.specs.declared.act.Act.{Act};
 ghost use Rattle.sot_lang.specs.declared.tables.TopicInfo.{TopicInfo};
