@@ -3,3 +3,5 @@ pub mod Texts
 pub mod Starts
 -- what the functions below a program's call promise it
 pub mod Steps
+-- what the crate's own functions promise each other
+pub mod Words
