@@ -1,5 +1,5 @@
 -- The words that a program was started with.
-use Rattle.std.specs.Prelude.{◌≡◌, String, List, [], ◌∷◌, Result, Ok, Err, drop}
+use Rattle.std.specs.Prelude.{◌≡◌, ◌⊎◌, ℕ, String, List, [], ◌∷◌, Result, Ok, Err, drop}
 use Rattle.std.specs.Prelude.{string_bytes}
 use Rattle.std.specs.Global.{Global}
 use Rattle.std.specs.declared.vec.IntoIter.{IntoIter}
@@ -19,3 +19,10 @@ AreWordsOf (Ok args) words = words ≡ drop 1 (into_iter_items args)
 AreWordsOf (Err e) words =
     (error_kind e ≡ InvalidData)
     × ((word : String Global) × (words ≡ word ∷ []) × (string_bytes word ≡ []))
+
+-- a process ends: at 6, for want of memory for its words; or as a call with them, of which this
+-- says with which words it may end with which status
+abbrev pub EndsAsCalled : (List (String Global) → ℕ → Type 0) → Started → ℕ → Type 0
+EndsAsCalled Calls args status =
+    (status ≡ 6)
+    ⊎ ((words : List (String Global)) × AreWordsOf args words × Calls words status)

@@ -1,5 +1,9 @@
 //! A program over real words, source and sink.
 
+ghost use Rattle.std.specs.Prelude.{◌≡◌};
+ghost use Rattle.std.specs.Process.{exit_status};
+ghost use Rattle.sot_cli.specs.Words.{EndsAsCalled};
+
 use crate::arguments::words_of;
 use crate::status::Status;
 use sot_ports::{StdSink, StdSource};
@@ -19,6 +23,9 @@ pub fn run_program<F: FnOnce(&[String], &mut StdSource, &mut StdSink) -> Status 
     program: F,
 ) -> ExitCode
     requires { F.IsAlwaysCallable program }
+    ensures ends { EndsAsCalled (λ words status. (w : _) × (source : _) × (sink : _) × (s : _)
+        × (read : _) × (written : _) × F.post program w source sink s read written
+        × (w.now ≡ words) × (s.0 ≡ status)) args (exit_status result) }
 {
     match words_of(alloc, args) {
         Ok(words) => {
