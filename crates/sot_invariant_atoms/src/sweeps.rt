@@ -5,7 +5,7 @@
 //! where its tube meets a tile that lost an atom, so the work is done where the set shrinks, and
 //! every other sweep goes down, so that a loss that moves along an axis is over in one sweep.
 
-ghost use Rattle.std.specs.Prelude.{◌≡◌, ◌⊎◌, length, IfOk, MatchOption};
+ghost use Rattle.std.specs.Prelude.{◌≡◌, ◌⊎◌, length, IfOk, MatchBool, MatchOption};
 ghost use Rattle.sot_atoms.specs.Blocks.{FitsAxes, IsOneAtom, AreHalves, atom_count};
 ghost use Rattle.sot_invariant_atoms.specs.Asking.{asked_width};
 ghost use Rattle.sot_invariant_atoms.specs.Greatest.{KeepsHeldRegions, TellsNone};
@@ -35,6 +35,8 @@ fn parts_of(found: TubeInAtoms, block: &Block) -> Option<BlockHalves>
 fn in_order(halves: BlockHalves, up: bool) -> BlockHalves
     ensures low { (result.low ≡ halves.low) ⊎ (result.low ≡ halves.high) }
     ensures high { (result.high ≡ halves.low) ⊎ (result.high ≡ halves.high) }
+    ensures order { MatchBool up (result ≡ halves)
+        ((result.low ≡ halves.high) × (result.high ≡ halves.low)) }
 {
     if up {
         return halves;
