@@ -47,8 +47,8 @@ SpellPair bytes a b =
     (halves : MissionHalves) × (halves_of bytes ≡ Some halves) × SpellsSide halves.a a
     × SpellsSide halves.b b
 
--- the topic of the first name, which nodes of the one mission write, and that of the second, which
--- is an environment topic of the other
+-- the topic of the first name, no environment topic of the one mission, and that of the second name,
+-- an environment topic of the other
 pub record AreNamed (a b : Side) (from to : List ℕ) (k l : ℕ) : Type 0 where
   pub from_is : IsNamed a.tables from false k
   pub to_is : IsNamed b.tables to true l

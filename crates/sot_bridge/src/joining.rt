@@ -16,8 +16,8 @@ use sot_lang::Typed;
 /// Why two missions do not join; the first of these that is so is told.
 #[derive(Clone, Copy, Debug, PartialEq, Eq)]
 pub enum JoinFault {
-    /// The first name is no topic that nodes of the first mission write, or the second is no
-    /// environment topic of the second mission.
+    /// The first name is no topic of the first mission, or only that of an environment topic; or the
+    /// second is no environment topic of the second mission.
     Unknown,
     /// The topics differ in the count of their scalars, or a scalar of the one in its scale or
     /// truth from that of the other, or its range is not inside the other's.
