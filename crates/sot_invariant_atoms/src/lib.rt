@@ -15,6 +15,6 @@ pub use ask::{ModuleAsk, may_ask};
 pub use boxes::held_boxes;
 pub use held::held_tube;
 pub use inside::atoms_of;
-pub use stays::{Among, any_stays, held_stays};
+pub use stays::{Among, any_stays, held_lands, held_may_land, held_stays};
 pub use sweeps::{closed_atoms, greatest};
 pub use tube::TubeInAtoms;
