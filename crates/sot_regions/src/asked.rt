@@ -11,6 +11,7 @@ use crate::cells::cells_of;
 use crate::cover::{Adding, Cover, cover_of};
 use crate::found::{FoundRegions, RegionsFail};
 use crate::growing::orders;
+use crate::levels::cells_by_levels;
 use crate::search::{Good, Search};
 use sot_atoms::{AtomSet, Block, Grid, MOST_ATOMS, Sums, atoms_in};
 use sot_box::{BoxN, Region};
@@ -30,6 +31,8 @@ struct Best {
     // how many atoms of the narrowest grain the safe region has
     worth: u64,
     found: Option<FoundRegions>,
+    // how often their grid is coarser than the narrowest one
+    times: u32,
     // whether some safe region had no safer one
     no_safer: bool,
 }
@@ -94,6 +97,7 @@ fn improve(search: &Search<'_>, safe: Cover, worth: u64, best: &mut Best) -> Res
     };
     best.worth = worth;
     best.found = Some(found);
+    best.times = search.times;
     Ok(())
 }
 
@@ -151,6 +155,29 @@ fn most_atoms(ask: &ModuleAsk<'_>) -> u64 {
     (MOST_ATOMS as u64).min(MOST_TICKS / ticks.max(1))
 }
 
+// Looks with the narrowest grains. Whether coarser ones may find better regions.
+fn look_first(
+    alloc: Global,
+    ask: &ModuleAsk<'_>,
+    narrowest: &Grid,
+    set: &AtomSet,
+    best: &mut Best,
+) -> Result<bool, AllocError>
+    requires narrowest { narrowest.now.width ≡ asked_width ask.now }
+    requires best { IsBest (asked_width ask.now) best.old }
+    ensures { OnOk result (IsBest (asked_width ask.now) best.new) }
+{
+    let orders = orders(alloc, narrowest.width())?;
+    let search = Search {
+        alloc,
+        ask: &*ask,
+        grid: &*narrowest,
+        times: 0,
+        orders: &orders,
+    };
+    look(&search, narrowest, set, best)
+}
+
 // Looks with coarser and coarser grains for better regions.
 fn coarsen(
     alloc: Global,
@@ -174,6 +201,7 @@ fn coarsen(
             alloc,
             ask: &*ask,
             grid: &grid,
+            times,
             orders: &orders,
         };
         if !look(&search, narrowest, &set, best)? {
@@ -189,6 +217,87 @@ pub(crate) fn narrowest_grid(ask: &ModuleAsk<'_>, hull: &BoxN) -> Option<Grid>
     ensures cuts { IfSome result (λ g. CutsHull g hull.now) }
 {
     Grid::of(hull, most_atoms(ask), 0)
+}
+
+// The points of some boxes.
+fn region_of(alloc: Global, width: usize, boxes: &[BoxN]) -> Result<Region, AllocError>
+    requires { AreWide width boxes.now }
+    ensures { IfOk result (λ r. r.width ≡ width) }
+{
+    let mut region = Region::none(alloc, width);
+    for b in boxes {
+        if region.push(*b).is_err() {
+            return Err(AllocError);
+        }
+    }
+    Ok(region)
+}
+
+// The cells by levels of regions in a grid, as boxes.
+fn level_cells(search: &Search<'_>, found: &FoundRegions) -> Result<Option<Vec<BoxN>>, AllocError>
+    requires search { IsSearch search.now }
+    requires shape { HasShape search.now.grid.now.width found.now }
+    ensures { IfOk result (λ made. IfSome made (λ v. (length v.items ≤ 4096)
+        × AreWide search.now.grid.now.width v.items)) }
+{
+    let width = search.grid.width();
+    let safe = region_of(search.alloc, width, &found.safe)?;
+    let safer = region_of(search.alloc, width, &found.safer)?;
+    match cells_by_levels(search, &safe, &safer)? {
+        None => Ok(None),
+        Some(cells) => Ok(Some(areas(search.alloc, search.grid, &cells)?)),
+    }
+}
+
+// The cells by levels of regions in one grid, as boxes.
+fn cells_in(
+    alloc: Global,
+    ask: &ModuleAsk<'_>,
+    grid: &Grid,
+    found: &FoundRegions,
+) -> Result<Option<Vec<BoxN>>, AllocError>
+    requires grid { grid.now.width ≡ asked_width ask.now }
+    requires shape { HasShape grid.now.width found.now }
+    ensures { IfOk result (λ made. IfSome made (λ v. (length v.items ≤ 4096)
+        × AreWide grid.now.width v.items)) }
+{
+    let orders = orders(alloc, grid.width())?;
+    let search = Search {
+        alloc,
+        ask: &*ask,
+        grid: &*grid,
+        times: 0,
+        orders: &orders,
+    };
+    level_cells(&search, found)
+}
+
+// The same regions with cells by levels, in the grid that is so often coarser than the narrowest
+// one, or else in the coarsest finer one in which there are some; as they are where there is none.
+fn with_levels(
+    alloc: Global,
+    ask: &ModuleAsk<'_>,
+    narrowest: &Grid,
+    times: u32,
+    found: FoundRegions,
+) -> Result<FoundRegions, AllocError>
+    requires narrowest { narrowest.now.width ≡ asked_width ask.now }
+    requires shape { HasShape (asked_width ask.now) found }
+    ensures { IfOk result (HasShape (asked_width ask.now)) }
+{
+    let mut found = found;
+    for finer in 0..times {
+        if let Some(grid) = narrowest.coarser(times - finer) {
+            if let Some(cells) = cells_in(alloc, ask, &grid, &found)? {
+                found.cells = cells;
+                return Ok(found);
+            }
+        }
+    }
+    if let Some(cells) = cells_in(alloc, ask, narrowest, &found)? {
+        found.cells = cells;
+    }
+    Ok(found)
 }
 
 /// The best regions inside the given one, of whose atoms on the narrowest grid these are closed.
@@ -207,21 +316,21 @@ pub(crate) fn regions_from(
     let mut best = Best {
         worth: 0,
         found: None,
+        times: 0,
         no_safer: false,
     };
-    let orders = orders(alloc, narrowest.width())?;
-    let search = Search {
-        alloc,
-        ask: &*ask,
-        grid: &*narrowest,
-        orders: &orders,
-    };
-    if look(&search, narrowest, set, &mut best)? {
+    if look_first(alloc, ask, narrowest, set, &mut best)? {
         coarsen(alloc, ask, given, narrowest, &mut best)?;
     }
-    match best.found {
-        Some(found) => Ok(found),
-        None if best.no_safer => Err(RegionsFail::SaferNone),
+    let Best {
+        found,
+        times,
+        no_safer,
+        ..
+    } = best;
+    match found {
+        Some(found) => Ok(with_levels(alloc, ask, narrowest, times, found)?),
+        None if no_safer => Err(RegionsFail::SaferNone),
         None => Err(RegionsFail::TooMany),
     }
 }

@@ -7,8 +7,8 @@ use crate::search::{Good, Search, Worth};
 use sot_atoms::{AtomSet, Block, Sums};
 use std::alloc::AllocError;
 
-// The most cells of a list.
-const MOST_CELLS: usize = 4096;
+/// The most cells of a list.
+pub(crate) const MOST_CELLS: usize = 4096;
 
 /// Blocks that have all atoms of a region, whose sums these are, and whose held tubes stay in it.
 /// `None` where there would be more than 4,096.

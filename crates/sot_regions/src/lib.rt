@@ -8,6 +8,7 @@ mod closing;
 mod cover;
 mod found;
 mod growing;
+mod levels;
 mod module;
 mod narrowing;
 mod search;

@@ -5,7 +5,7 @@ ghost use Rattle.sot_regions.specs.Searches.{IsSearch};
 
 use crate::growing::{End, Order, grown, room};
 use sot_atoms::{AtomSet, Block, Grid, Sums, atoms_in};
-use sot_invariant_atoms::{Among, ModuleAsk, any_stays, held_stays};
+use sot_invariant_atoms::{Among, ModuleAsk, any_stays, held_lands, held_may_land, held_stays};
 use std::alloc::{AllocError, Global};
 
 /// In which grid is searched, and whose tubes are asked for.
@@ -14,7 +14,18 @@ pub(crate) struct Search<'a> {
     pub(crate) alloc: Global,
     pub(crate) ask: &'a ModuleAsk<'a>,
     pub(crate) grid: &'a Grid,
+    /// How often the grid is coarser than the narrowest one.
+    pub(crate) times: u32,
     pub(crate) orders: &'a [Order],
+}
+
+/// Where a block lies, where its held tube stays, and where its holds of the safe node end, as sets
+/// of these sums.
+#[derive(Clone, Copy)]
+pub(crate) struct Returning<'a> {
+    pub(crate) own: &'a Sums,
+    pub(crate) tube: &'a Sums,
+    pub(crate) ends: &'a Sums,
 }
 
 /// What is asked of a block. A smaller block does it too, since its tubes are narrower.
@@ -28,6 +39,8 @@ pub(crate) enum Good<'a> {
     Keeps(&'a Sums),
     /// It lies in the set, and its tube under any commands stays there.
     KeepsAny(&'a Sums),
+    /// It lies, its held tube stays, and its holds end in these sets.
+    Returns(Returning<'a>),
 }
 
 /// What a block is worth.
@@ -74,6 +87,29 @@ impl Search<'_> {
         any_stays(self.ask, &self.grid.area(block), self.among(sums))
     }
 
+    // Whether the holds of a block end in the set of these sums.
+    fn lands(&self, block: &Block, sums: &Sums) -> bool
+        requires { IsSearch self.now }
+    {
+        held_lands(self.ask, &self.grid.area(block), self.among(sums))
+    }
+
+    // Whether a block lies, its held tube stays, and its holds end where it is asked.
+    fn returns(&self, block: &Block, asked: Returning<'_>) -> bool
+        requires { IsSearch self.now }
+    {
+        asked.own.has_all(self.grid, block)
+            && self.lands(block, asked.ends)
+            && self.stays(block, asked.tube)
+    }
+
+    /// Whether the holds of some atom of a block may end where it is asked.
+    pub(crate) fn may_return(&self, block: &Block, asked: Returning<'_>) -> bool
+        requires { IsSearch self.now }
+    {
+        held_may_land(self.ask, &self.grid.area(block), self.grid, asked.ends)
+    }
+
     /// Whether a block is good.
     pub(crate) fn is_good(&self, block: &Block, good: Good<'_>) -> bool
         requires { IsSearch self.now }
@@ -83,6 +119,7 @@ impl Search<'_> {
             Good::Held(sums) => self.stays(block, sums),
             Good::Keeps(sums) => sums.has_all(self.grid, block) && self.stays(block, sums),
             Good::KeepsAny(sums) => sums.has_all(self.grid, block) && self.any_stays(block, sums),
+            Good::Returns(asked) => self.returns(block, asked),
         }
     }
 
