@@ -185,20 +185,16 @@ thinned_on lands a b c x y z h g = record {
   lighter = (let p = h.lighter in let q = g.lighter in omega (arith, p, q));
 }
 
--- what does not hang on a place which is taken lands in what is there
-pub passed : (lands : List Bool → ℕ → Type 0) (hangs : ℕ → ℕ → Type 0) (set set' : List Bool) (leaving leaving' : List ℕ) (j k : ℕ) → IsMonotone lands
-    → IsHanging lands hangs → lands (with_places set (leaving ++ j ∷ [])) k → (hangs j k → ⊥) → IsThinned lands set leaving set' leaving'
-    → lands (with_places set' leaving') k
-passed lands hangs set set' leaving leaving' j k more hanging l not_it t =
-    more (slice_set (with_places set (leaving ++ j ∷ [])) j false) (with_places set' leaving') k
-    (λ q e. t.either q (back q e)) (hanging (with_places set (leaving ++ j ∷ [])) j k l not_it)
+-- what hangs on none of the places that are taken lands in the others
+pub passed : (lands : List Bool → ℕ → Type 0) (hangs : ℕ → ℕ → Type 0) (set : List Bool) (leaving : List ℕ) (k : ℕ) → IsMonotone lands
+    → IsHanging lands hangs → ((j : ℕ) → Has leaving j → hangs j k → ⊥) → lands (with_places set leaving) k → lands set k
+passed lands hangs set [] k more hanging none l = l
+passed lands hangs set (j ∷ js) k more hanging none l =
+    passed lands hangs set js k more hanging (λ q h. none q (has_later js q j h))
+    (more (slice_set (with_places set (j ∷ js)) j false) (with_places set js) k back (hanging (with_places set (j ∷ js)) j k l (none j (has_first js j))))
   where
-    back : (q : ℕ) → IsSet (slice_set (with_places set (leaving ++ j ∷ [])) j false) q → IsSet (with_places set leaving) q
-    back q e =
-        let ne = taken_other (with_places set (leaving ++ j ∷ [])) j q e in
-        let s = taken (with_places set (leaving ++ j ∷ [])) j q e in
-        let below = with_below set (leaving ++ j ∷ []) q s in
-        ⊎_elim
-        (λ x. with_flag set leaving q x)
-        (λ h. ⊎_elim (λ x. with_place set leaving q below x) (λ same. absurd (ne same)) (has_append leaving q j h))
-        (with_cases set (leaving ++ j ∷ []) q s)
+    back : (q : ℕ) → IsSet (slice_set (with_places set (j ∷ js)) j false) q → IsSet (with_places set js) q
+    back q e = ⊎_elim
+        (λ x. x)
+        (λ same. absurd (taken_other (with_places set (j ∷ js)) j q e same))
+        (put_cases (with_places set js) j q (taken (with_places set (j ∷ js)) j q e))

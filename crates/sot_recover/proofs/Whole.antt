@@ -24,10 +24,10 @@ use Rattle.sot_recover.specs.Found.{AreRanksOf}
 use Rattle.sot_recover.proofs.Reached.{is_rank, no_rank}
 
 -- what is written over the whole of a list is what is there
-pub vec_whole : (new old : List ℕ) (len : ℕ) → length new ≡ length old → len ≡ length old → take len (new ++ drop (length new) old) ≡ new
-vec_whole new old len same is = subst (λ n. take n (new ++ drop (length new) old) ≡ new) (same ∙ sym is) (front new (drop (length new) old))
+pub vec_whole : {A : Type 0} (new old : List A) (len : ℕ) → length new ≡ length old → len ≡ length old → take len (new ++ drop (length new) old) ≡ new
+vec_whole {A} new old len same is = subst (λ n. take n (new ++ drop (length new) old) ≡ new) (same ∙ sym is) (front new (drop (length new) old))
   where
-    front : (xs ys : List ℕ) → take (length xs) (xs ++ ys) ≡ xs
+    front : (xs ys : List A) → take (length xs) (xs ++ ys) ≡ xs
     front [] ys = refl
     front (x ∷ xs) ys = ap (λ l. x ∷ l) (front xs ys)
 
