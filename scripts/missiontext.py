@@ -39,8 +39,8 @@ TOLD = re.compile(rf'start \w+\({NUMBERS_SAID}\)|input \w+={NUMBERS_SAID}|draft 
                   rf'|tick(?: \w+\({NUMBERS_SAID}\))*', re.A)
 ANSWERED = re.compile(
     rf'accepted|modules \d+ nodes \d+ cells \d+|\d+ input \w+={NUMBERS_SAID}|\d+ decide \w+ (?:ac|sc)'
-    rf'|\d+ (?:fire|idle) \w+{WRITES_SAID}|\d+ hold \w+(?: \w+(?:\.\w+)?=-?\d+)*|\d+ ready'
-    r'|\d+ outside plant \w+ state \w+ \[-?\d+\.\.-?\d+\] observed -?\d+|\d+ ignored (?:draft|input|resume) \w+|\d+ blind \w+'
+    rf'|\d+ (?:fire|idle) \w+{WRITES_SAID}|\d+ hold \w+(?: \w+(?:\.\w+)?=-?\d+)*|\d+ (?:begins|ready)(?: \w+)*'
+    r'|\d+ outside plant \w+ state \w+ \[-?\d+\.\.-?\d+\] observed -?\d+|\d+ ignored (?:draft|input|resume)(?: \w+)? \w+|\d+ blind \w+'
     r'|\d+ resumed|\d+ refused resume module \w+'
     r'|end \d+ events \d+|fault observed line \d+ \w+|refused start module \w+ point \(.*\)', re.A)
 ASIDES = ('draft', 'input', 'resume')

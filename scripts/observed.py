@@ -22,6 +22,7 @@ START = re.compile(rf'start({PLACE.pattern})', re.A)
 INPUT = re.compile(rf'input ({NAME})=({NUMBERS})', re.A)
 DRAFT = re.compile(rf'draft ({NAME})((?: {NAME}(?:\.{NAME})?[=!]{NUMBER})*)', re.A)
 TICK = re.compile(rf'tick((?:{PLACE.pattern})*)', re.A)
+ABOUT = re.compile(r'(draft|input) (\w+)', re.A)
 WRITE = re.compile(rf' ({NAME}(?:\.{NAME})?)[=!]({NUMBER})', re.A)
 
 
@@ -97,7 +98,7 @@ class Guard:
         self.scalars = dict(self.meaning.initial)
         self.modes = {module.name: 'sc' for module in self.meaning.modules}
         self.locals = {node.name: dict(node.first) for node in self.meaning.nodes}
-        self.points, self.drafts, self.left = [], {}, set()
+        self.points, self.drafts, self.left, self.begun = [], {}, set(), []
         self.note_due()
         self.open_up()
 
@@ -105,20 +106,24 @@ class Guard:
 
     def due_now(self):
         """The nodes and modules that are due."""
-        return {thing.name for thing in [*self.meaning.nodes, *self.meaning.modules]
-                if self.time >= thing.offset and (self.time - thing.offset) % thing.period == 0}
+        return {thing.name for thing in [*self.meaning.nodes, *self.meaning.modules] if is_due(thing, self.time)}
+
+    def asked(self, time):
+        """The external nodes that are due at a time."""
+        return [node.name for node in self.meaning.nodes if node.body is None and is_due(node, time)]
 
     def note_due(self):
         self.left |= self.due_now()
 
     def open_up(self):
-        """The talk begins once all plants were observed, where the first commands hold each module safe."""
+        """The talk begins once all plants were observed, where the first commands hold each module safe; that is told then."""
         if len(self.points) < len(self.meaning.plants):
             return
         self.turn = 'instant'
         module = self.first_unsafe(self.left)
         if module:
             raise Refused(f'refused start module {module.name} point ({", ".join(map(str, self.point_of(module.plant)))})')
+        self.begun = [' '.join([f'{self.time} begins', *self.asked(self.time)])]
 
     def may_start(self, points):
         """Whether a talk may begin with the plants at these points."""
@@ -162,7 +167,14 @@ class Guard:
 
     def ignore(self, line, why):
         """A draft, an input or a resume that is not taken changes nothing."""
-        return [f'{self.time} ignored {next(word for word in ASIDES if line.startswith(word))} {why}']
+        kind = next(word for word in ASIDES if line.startswith(word))
+        return [' '.join([f'{self.time} ignored {kind}', *self.about(line), str(why)])]
+
+    def about(self, line):
+        """The node or the topic that such a line is about, where one of that name is declared."""
+        found = ABOUT.match(line)
+        names = self.meaning.declared.topics if found and found[1] == 'input' else [node.name for node in self.meaning.nodes]
+        return [found[2]] if found and found[2] in names else []
 
     def go_blind(self, line, why):
         """Another line is not taken: a tick that was to come passes unseen, and the models are trusted no more."""
@@ -191,7 +203,7 @@ class Guard:
             raise Misheard('OutsideType')
         self.points.append(point)
         self.open_up()
-        return []
+        return self.begun
 
     def input(self, topic, value):
         names = self.meaning.of_topic[topic]
@@ -221,7 +233,7 @@ class Guard:
         self.left, self.drafts, self.turn = set(), {}, 'tick'
         for plant in self.meaning.plants:
             lines.append(f'{self.time} hold {plant.name}' + ''.join(f' {name}={self.scalars[name]}' for name in plant.inputs))
-        return lines + [f'{self.time} ready']
+        return lines + [' '.join([f'{self.time} ready', *self.asked(self.time + 1)])]
 
     def resume(self):
         """The models are trusted again, where the commands in force hold every module safe; what is due is left to fire."""
@@ -353,6 +365,10 @@ class Guard:
         return {f'{name}.{state}': (min(box[i][0] for box in safe), max(box[i][1] for box in safe)) for i, state in enumerate(plant.states)}
 
 
+def is_due(thing, time):
+    return time >= thing.offset and (time - thing.offset) % thing.period == 0
+
+
 def misheard(kind):
     raise Misheard(kind)
 
@@ -390,6 +406,7 @@ def answers(mission, lines):
     number = 0
     try:
         guard = Guard(meaning, jitter)
+        said += guard.begun
         for number, line in enumerate(lines, 1):
             if len(line) >= TOO_LONG:
                 raise Misheard('NotALine')

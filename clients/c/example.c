@@ -58,7 +58,7 @@ int main(int count, char **words)
     for (tick = 0; tick < 40; tick++) {
         int64_t command = 0;
         wanted = tick == 8 ? 1e19 : 2;
-        if (tick % 4 == 0) /* fast is due each fourth tick */
+        if (soter_guard_is_due(guard, "fast"))
             soter_guard_draft(guard, &fast, scalars);
         if (soter_guard_go(guard, &instant) != SOTER_GUARD_DONE
             || soter_guard_held(guard, "pos", "cmd", &command) != SOTER_GUARD_DONE)

@@ -38,6 +38,7 @@ struct soter_guard {
     soter_guard_instant instant;
     size_t answer_length;     /* of the last instant, which stands in `answer` */
     char why[REASON];
+    char due[ROOM + 1];       /* the names behind the last `begins` or `ready`, each between two blanks; empty before it */
     char trouble[REASON];
     char said[LONGEST + 2];
     char heard[ROOM + 1];
@@ -341,6 +342,23 @@ static int keep_held(soter_guard *guard, const char *held)
     return SOTER_GUARD_DONE;
 }
 
+/* Whether a line is of this kind, alone or with words behind it. */
+static int is_kind(const char *said, const char *kind)
+{
+    size_t length = strlen(kind);
+
+    return begins(said, kind) && (said[length] == ' ' || said[length] == '\0');
+}
+
+/* Who is due now or next. A line is shorter than the room for their names. */
+static void keep_due(soter_guard *guard, const char *names)
+{
+    size_t length = strlen(names);
+
+    memcpy(guard->due, names, length);
+    strcpy(guard->due + length, " ");
+}
+
 /* One line of an instant. A line that has no time in front tells why the program ends. */
 static int hear_line(soter_guard *guard, const char *line)
 {
@@ -364,7 +382,9 @@ static int hear_line(soter_guard *guard, const char *line)
         copy(guard->trouble, line);
         guard->instant.trouble = guard->trouble;
     }
-    guard->is_ready = strcmp(said, "ready") == 0;
+    guard->is_ready = is_kind(said, "ready");
+    if (guard->is_ready || is_kind(said, "begins"))
+        keep_due(guard, said + strlen(guard->is_ready ? "ready" : "begins"));
     return SOTER_GUARD_DONE;
 }
 
@@ -553,12 +573,30 @@ int soter_guard_start(soter_guard *guard, const soter_guard_numbers *plant)
     return result == SOTER_GUARD_DONE ? tell_line(guard) : result;
 }
 
+/* Once all plants were started the guard says that the talk begins, and who is due. */
+static int wait_for_beginning(soter_guard *guard)
+{
+    double end = now() + guard->options.deadline;
+    const char *nothing = "";
+    size_t none = 0;
+    int result = guard->is_lost ? SOTER_GUARD_LOST : hear_lines(guard);
+
+    while (result == SOTER_GUARD_DONE && guard->due[0] == '\0') {
+        result = exchange(guard, &nothing, &none, end);
+        if (result == SOTER_GUARD_DONE)
+            result = hear_lines(guard);
+    }
+    return result;
+}
+
 /* Behind the starts the first input, draft or `go` begins the instant. */
 static int begin_instant(soter_guard *guard)
 {
-    if (guard->turn == STARTS)
+    int result = guard->turn == STARTS ? wait_for_beginning(guard) : SOTER_GUARD_DONE;
+
+    if (result == SOTER_GUARD_DONE && guard->turn == STARTS)
         guard->turn = INSTANT;
-    return begin(guard, INSTANT);
+    return result == SOTER_GUARD_DONE ? begin(guard, INSTANT) : result;
 }
 
 int soter_guard_input(soter_guard *guard, const soter_guard_numbers *topic)
@@ -702,6 +740,19 @@ int soter_guard_held(const soter_guard *guard, const char *plant, const char *sc
         line = end + 1;
     }
     return SOTER_GUARD_WRONG_USE;
+}
+
+int soter_guard_is_due(soter_guard *guard, const char *node)
+{
+    size_t length = strlen(node);
+    const char *word = guard->due;
+
+    if (!is_name(node, 0) || wait_for_beginning(guard) != SOTER_GUARD_DONE)
+        return 0;
+    for (; (word = strstr(word, node)) != NULL; word += length)
+        if (word > guard->due && word[-1] == ' ' && word[length] == ' ')
+            return 1;
+    return 0;
 }
 
 int soter_guard_tick(soter_guard *guard, const soter_guard_numbers *plants, size_t count)

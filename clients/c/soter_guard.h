@@ -67,6 +67,10 @@ int soter_guard_draft(soter_guard *guard, const soter_guard_numbers *node, const
 /* The same by what a planner wrote itself, as `cmd=2`, in mantissas: at most one line, cut between two words. */
 int soter_guard_draft_text(soter_guard *guard, const char *node, const char *text);
 
+/* Whether an external node is due in the present instant, or behind a `go` in the next one, by what the guard said: 1
+ * or 0, and 0 where the guard is lost. It may be called once all plants were started. */
+int soter_guard_is_due(soter_guard *guard, const char *node);
+
 /* Asks that the models are trusted again, in this instant, and waits for the answer: whether they are, 1 or 0. They
  * are where every plant was observed at this time, and the commands in force hold every module safe until its safe node
  * fires. */

@@ -23,7 +23,7 @@ import re
 import select
 import subprocess
 import time
-from typing import Callable, Dict, List, Mapping, Optional, Sequence, TextIO, Union
+from typing import Callable, Dict, List, Mapping, Optional, Sequence, Set, TextIO, Union
 
 LEAST, MOST = -2 ** 63, 2 ** 63 - 1
 LONGEST = 65000       # bytes of a line that is told; the guard ends where one has 65,536
@@ -74,22 +74,16 @@ NAME = r'[A-Za-z_][A-Za-z0-9_]*'
 TOPIC = re.compile(rf'(\benvironment\s+)?\btopic\s+({NAME})\s*:\s*(\{{[^}}]*\}}|[^=]*)=')
 FIELD = re.compile(rf'({NAME})\s*:\s*(?:int|bool|fix\s*\(\s*(\d+)\s*\))')
 PLANT = re.compile(rf'\bplant\s+({NAME})\s*\{{\s*state\s+([^;]*);(?:\s*input\s+([^;]*);)?')
-NODE = re.compile(rf'\b(node|external)\s+({NAME})\s+period\s+(\d+)\s+offset\s+(\d+)\s*\{{'
+NODE = re.compile(rf'\b(node|external)\s+({NAME})\s+period\s+\d+\s+offset\s+\d+\s*\{{'
                   r'(?:\s*reads\s+[^;]*;)?(?:\s*writes\s+([^;]*);)?')
 MODULE = re.compile(rf'\bmodule\s+({NAME})\s*\{{')
 
 
 @dataclasses.dataclass
 class Node:
-    """A node that drafts: when it is due, and its scalars in the order of a draft."""
+    """A node that drafts, and its scalars in the order of a draft."""
     is_external: bool
-    period: int
-    offset: int
     scalars: List[str]
-
-    def is_due(self, tick: int) -> bool:
-        """Whether it fires at this time."""
-        return tick >= self.offset and (tick - self.offset) % self.period == 0
 
 
 def names_of(text: Optional[str]) -> List[str]:
@@ -121,6 +115,7 @@ class Mission:
         self.inputs = {found[1]: self._scalars(found[3]) for found in PLANT.finditer(said)}
         self.states = {found[1]: self._states(found[1], found[2]) for found in PLANT.finditer(said)}
         self.nodes = {found[2]: self._node(found) for found in NODE.finditer(said)}
+        self.external = {name for name, node in self.nodes.items() if node.is_external}
         self.modules = MODULE.findall(said)
         for name, count in (decimals or {}).items():
             if name not in self.decimals:
@@ -146,8 +141,7 @@ class Mission:
         return [scalar for topic in names_of(topics) for scalar in self.fields.get(topic, [])]
 
     def _node(self, found: 're.Match[str]') -> Node:
-        scalars = self._scalars(found[5])
-        return Node(found[1] == 'external', int(found[3]), int(found[4]), scalars)
+        return Node(found[1] == 'external', self._scalars(found[3]))
 
 
 # --- what is heard --------------------------------------------------------------------------------
@@ -159,7 +153,7 @@ class Instant:
     `held` are the commands in force until the next tick, by plant and scalar, in units; `mantissas` the same as they
     were told. `modes` are those of all modules. `outside` and `blind` are the lines that end the trust in the models,
     in the instant in which they come. `ignored` are the lines that tell of a draft, an input or a resume which was not
-    taken. `resumes` are the other answers to `resume`.
+    taken. `resumes` are the other answers to `resume`. `due` are the external nodes that are due after the tick.
     """
     time: int
     held: Dict[str, Dict[str, Number]] = dataclasses.field(default_factory=dict)
@@ -169,6 +163,7 @@ class Instant:
     blind: Optional[str] = None
     ignored: List[str] = dataclasses.field(default_factory=list)
     resumes: List[str] = dataclasses.field(default_factory=list)
+    due: List[str] = dataclasses.field(default_factory=list)
     lines: List[str] = dataclasses.field(default_factory=list)
 
     @property
@@ -181,6 +176,11 @@ class Instant:
 RESUME = re.compile(r'\d+ (?:resumed|refused resume module \w+|ignored resume \w+)', re.A)
 
 
+def is_ready(line: str) -> bool:
+    """Whether a line is the last one of an instant: `T ready`, and the external nodes that are due after the tick."""
+    return line.split(' ')[1:2] == ['ready']
+
+
 def is_trusted_after(lines: List[str], trusted: bool) -> bool:
     """Whether the models are trusted behind these lines of the guard."""
     for line in lines:
@@ -190,7 +190,7 @@ def is_trusted_after(lines: List[str], trusted: bool) -> bool:
 
 
 def instant_of(mission: Mission, lines: List[str], now: int, modes: Dict[str, str]) -> Instant:
-    """An instant by its lines, of which the last one is `T ready`; ValueError where it is none."""
+    """An instant by its lines, of which the last one is `T ready NODE ..`; ValueError where it is none."""
     instant = Instant(now, modes=dict(modes), lines=lines)
     for line in lines:
         words = line.split(' ')
@@ -209,8 +209,11 @@ def instant_of(mission: Mission, lines: List[str], now: int, modes: Dict[str, st
             instant.modes = dict.fromkeys(modes, 'sc')
     if {plant: list(held) for plant, held in instant.mantissas.items()} != mission.inputs:
         raise ValueError('the commands in force are not those of all plants')
-    if lines[-1] != f'{now} ready':
+    time, _, *instant.due = lines[-1].split(' ')
+    if time != str(now):
         raise ValueError(f'the guard is at another time than {now}')
+    if not set(instant.due) <= mission.external:
+        raise ValueError('what is due is no external node')
     for plant, held in instant.mantissas.items():
         instant.held[plant] = {name: value_of(number, mission.decimals[name])
                                for name, number in held.items()}
@@ -236,6 +239,7 @@ class Guard:
             self.mission = Mission(file.read(), decimals)
         self.deadline, self.time, self.is_trusted = deadline, 0, True
         self.modes = dict.fromkeys(self.mission.modules, 'sc')
+        self.due: Set[str] = set()
         self.lost: Optional[str] = None
         self._fallback, self._turn = fallback, 'start'
         self._waiting, self._heard, self._lines = bytearray(), bytearray(), []
@@ -257,7 +261,7 @@ class Guard:
         self._pump(lambda: len(self._lines) >= 2, seconds)
         if self._lines[0] != 'accepted':
             self._lose(f'the mission is not accepted: {self._lines[0]}')
-        self._lines.clear()
+        del self._lines[:2]
 
     def __enter__(self) -> 'Guard':
         return self
@@ -272,7 +276,7 @@ class Guard:
     # --- what the robot says ----------------------------------------------------------------------
 
     def start(self, places: Mapping[str, States]) -> None:
-        """Where each plant was observed first."""
+        """Where each plant was observed first; it waits until the guard says that the talk begins."""
         self._want('start')
         lines = []
         for plant in self._plants_of(places):
@@ -282,6 +286,11 @@ class Guard:
             lines.append(f'start {place}\n')
         self._turn = 'instant'
         self._say(''.join(lines))
+        self._pump(lambda: self._lines, self.deadline)
+        begun = self._lines.pop(0).split(' ')
+        if begun[:2] != ['0', 'begins'] or not set(begun[2:]) <= self.mission.external:
+            self._lose(f'the talk does not begin: {" ".join(begun)}')
+        self.due = set(begun[2:])
 
     def tick(self, places: Mapping[str, States]) -> bool:
         """Where all plants were observed after a tick.
@@ -317,7 +326,7 @@ class Guard:
             if name not in scalars:
                 raise ValueError(f'{node} writes no {name}')
         told = {name: mantissa_of(wanted[name], self.mission.decimals[name]) for name in wanted}
-        if not self.mission.nodes[node].is_due(self.time) or None in told.values():
+        if node not in self.due or None in told.values():
             return False
         words = [f'{name}={told[name]}' for name in scalars if name in told]
         self._say(' '.join(['draft', node, *words]) + '\n')
@@ -329,15 +338,16 @@ class Guard:
         Of the text at most one line is told, and what is too long is cut between two words.
         """
         self._want('instant')
-        if not self._external(node).is_due(self.time):
+        if not self.is_due(node):
             return False
         front = f'draft {node} '
         self._say(front + cut(text, LONGEST - len(front)) + '\n')
         return True
 
     def is_due(self, node: str) -> bool:
-        """Whether a draft of this external node is taken in the present instant."""
-        return self._external(node).is_due(self.time)
+        """Whether an external node is due in this instant, or behind a `go` in the next, by what the guard said."""
+        self._external(node)
+        return node in self.due
 
     def resume(self) -> bool:
         """Asks that the models are trusted again, in this instant; it waits for the answer, and returns whether they are.
@@ -360,13 +370,14 @@ class Guard:
         """All of this instant was said: what happened, and the commands in force."""
         self._want('instant')
         self._say('go\n')
-        self._pump(lambda: any(line.endswith(' ready') for line in self._lines), self.deadline)
-        end = 1 + next(i for i, line in enumerate(self._lines) if line.endswith(' ready'))
+        self._pump(lambda: any(is_ready(line) for line in self._lines), self.deadline)
+        end = 1 + next(i for i, line in enumerate(self._lines) if is_ready(line))
         try:
             instant = instant_of(self.mission, self._lines[:end], self.time, self.modes)
         except (ValueError, IndexError, KeyError) as why:
             self._lose(f'what the guard says is not understood: {why}')
         self._turn, self._lines, self.modes = 'tick', self._lines[end:], instant.modes
+        self.due = set(instant.due)
         self.is_trusted = is_trusted_after(instant.lines, self.is_trusted)
         self._keep('')
         return instant

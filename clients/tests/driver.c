@@ -3,7 +3,7 @@
  *
  *   start PLANT D V ..      input TOPIC D V ..      draft NODE SCALAR D V ..     tick PLANT D V .. / PLANT D V ..
  *   text NODE TEXT          go                      held PLANT SCALAR            mantissa D V
- *   resume
+ *   due NODE                resume
  *
  * D is a count of decimals and V a value. In a TEXT `\n` stands for a line end, and `*` for 70,000 digits. */
 #include <fcntl.h>
@@ -131,6 +131,10 @@ static int done(soter_guard *guard, const char *kind)
         return go(guard);
     if (strcmp(kind, "resume") == 0)
         return resume(guard);
+    if (strcmp(kind, "due") == 0) {
+        printf("due %d\n", soter_guard_is_due(guard, word()));
+        return SOTER_GUARD_DONE;
+    }
     if (strcmp(kind, "tick") == 0)
         return tick(guard);
     if (strcmp(kind, "text") == 0)

@@ -48,6 +48,7 @@ class PythonClient:
         self.start, self.tick = self.guard.start, self.guard.tick
         self.draft, self.text = self.guard.draft, self.guard.draft_text
         self.input, self.resume = self.guard.input, self.guard.resume
+        self.is_due = self.guard.is_due
 
     def go(self):
         instant = self.guard.go()
@@ -116,6 +117,11 @@ class CClient:
                 for plant, scalars in self.mission.inputs.items()}
         return Seen(int(words[1]), words[3] == '1', int(words[5]), words[7], held)
 
+    def is_due(self, node):
+        lines, result = self.do('due', node)
+        want(result, 0, f'the result of due {node}')
+        return lines == ['due 1']
+
     def resume(self):
         lines, result = self.do('resume')
         want(result, 0, 'the result of resume')
@@ -172,13 +178,17 @@ class Flight:
 
     def drafts(self, client, time):
         """Each external node that is due wants something, and at times what no number tells."""
-        for name, node in self.known.nodes.items():
-            if node.is_external and node.is_due(time):
-                ranges = [self.meaning.ranges[scalar] for scalar in node.scalars]
+        for node in self.meaning.nodes:
+            name, due = node.name, observed.is_due(node, time)
+            if node.body is not None:
+                continue
+            want(client.is_due(name), due, f'whether {name} is due at {time}')
+            if due:
+                ranges = [self.meaning.ranges[scalar] for scalar in node.writes]
                 numbers = [self.choice.randint(of.lo - 1, of.hi + 1) for of in ranges]
-                wanted = dict(zip(node.scalars, self.in_units(node.scalars, numbers)))
+                wanted = dict(zip(node.writes, self.in_units(node.writes, numbers)))
                 if wanted and self.choice.random() < 0.1:
-                    wanted[node.scalars[0]] = self.choice.choice((float('nan'), float('-inf'), 1e19, 1e300))
+                    wanted[node.writes[0]] = self.choice.choice((float('nan'), float('-inf'), 1e19, 1e300))
                 self.told.append(client.draft(name, wanted))
 
     def inputs(self, client):

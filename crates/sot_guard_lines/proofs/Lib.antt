@@ -11,3 +11,5 @@ pub mod ShownSaid
 -- `resume` is a line by itself
 pub mod Resuming
 mod Named
+-- what a test chooses
+mod Chosen

@@ -3,7 +3,8 @@ use Rattle.std.specs.Prelude.{◌≡◌, ℕ, pos, negsuc, List, [], ◌∷◌, 
 use Rattle.std.specs.Global.{Global}
 use Rattle.sot_lang.specs.Line.{line}
 use Rattle.sot_lang.specs.Tables.{Tables}
-use Rattle.sot_guard_lines.specs.Lines.{hold_line, ready_line, outside_line, end_line}
+use Rattle.sot_guard_lines.specs.Lines.{hold_line, begins_line, ready_line, outside_line}
+use Rattle.sot_guard_lines.specs.Lines.{end_line}
 use Rattle.sot_guard_lines.specs.Lines.{resumed_line, refused_resume_line}
 use Rattle.sot_guard_lines.specs.Sayings.{Saying, ResumeSaid, IsSaid}
 
@@ -22,11 +23,19 @@ OutsideItsInterval g =
     × (outside_line (line g) 30 0 0 (record { lo = negsuc 12; hi = negsuc 10 }) (pos 0)
     ≡ codes "30 outside plant pos state x [-13..-11] observed 0")
 
+-- its one external node is due at each fourth time, and its safe node is coded
+abbrev pub ReadyForATick : Global → Type 0
+ReadyForATick g =
+    (begins_line (line g) 0 ≡ codes "0 begins fast")
+    × (begins_line (line g) 6 ≡ codes "6 begins")
+    × (ready_line (line g) 0 ≡ codes "0 ready")
+    × (ready_line (line g) 3 ≡ codes "3 ready fast")
+    × (ready_line (line g) 4 ≡ codes "4 ready")
+    × (ready_line (line g) 4294967295 ≡ codes "4294967295 ready fast")
+    × (ready_line (line g) 4294967299 ≡ codes "4294967299 ready fast")
+
 abbrev pub OtherLines : Type 0
-OtherLines =
-    (ready_line 0 ≡ codes "0 ready")
-    × (ready_line 4294967299 ≡ codes "4294967299 ready")
-    × (end_line 20 61 ≡ codes "end 20 events 61")
+OtherLines = end_line 20 61 ≡ codes "end 20 events 61"
 
 abbrev pub SaysNothing : Tables → List ℕ → Type 0
 SaysNothing p line = (s : Saying) → IsSaid p line s → ⊥

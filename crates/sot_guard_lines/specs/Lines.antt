@@ -1,8 +1,11 @@
 -- The lines of a decision module that stands beside its plants, each without its line end.
-use Rattle.std.specs.Prelude.{ℕ, ℤ, pos, List, [], ◌∷◌, ◌++◌, slice_get, slice_index_or, codes}
+use Rattle.std.specs.Prelude.{ℕ, suc, ◌-◌, ◌%◌, ℤ, pos, List, [], ◌∷◌, ◌++◌, codes}
+use Rattle.std.specs.Prelude.{Bool, ◌&&◌, nat_le, nat_eq, is_none, if◌then◌else◌}
+use Rattle.std.specs.Prelude.{slice_get, slice_index_or}
 use Rattle.std.specs.Option.{option_map_or}
 use Rattle.sot_box.specs.Sides.{Side}
 use Rattle.sot_lang.specs.declared.tables.PlantInfo.{PlantInfo}
+use Rattle.sot_lang.specs.declared.tables.NodeInfo.{NodeInfo}
 use Rattle.sot_lang.specs.Tables.{Tables}
 use Rattle.sot_lang.specs.Names.{plant_name, module_name}
 use Rattle.sot_trace.specs.Names.{scalar_name}
@@ -28,9 +31,28 @@ hold_line p time plant scalars =
     numeral time ++ (codes " hold "
     ++ (plant_name p plant ++ all_held p (inputs_of p plant) scalars))
 
--- `T ready`: the instant was gone through, and the tick may come
-abbrev pub ready_line : ℕ → List ℕ
-ready_line time = numeral time ++ codes " ready"
+-- whether a node is due at a time: at its offset, and then once in each period
+abbrev pub is_due : NodeInfo → ℕ → Bool
+is_due n t = nat_le n.offset t && nat_eq ((t - n.offset) % n.period) 0
+
+-- ` NODE`, where the node is external and due at a time
+abbrev pub due_name : NodeInfo → ℕ → List ℕ
+due_name n t = if is_none n.body && is_due n t then codes " " ++ n.name else []
+
+-- each external node that is due at a time, in declared order
+abbrev pub due_names : List NodeInfo → ℕ → List ℕ
+due_names [] t = []
+due_names (n ∷ ns) t = due_name n t ++ due_names ns t
+
+-- `T begins NODE ..`: all plants were observed, and the talk begins. The external nodes are named
+-- that are due now
+abbrev pub begins_line : Tables → ℕ → List ℕ
+begins_line p time = numeral time ++ (codes " begins" ++ due_names p.nodes time)
+
+-- `T ready NODE ..`: the instant was gone through, and the tick may come. The external nodes are
+-- named that are due after it
+abbrev pub ready_line : Tables → ℕ → List ℕ
+ready_line p time = numeral time ++ (codes " ready" ++ due_names p.nodes (suc time))
 
 -- the name of a plant's state variable, and none where nothing stands there
 abbrev pub state_of : PlantInfo → ℕ → List ℕ

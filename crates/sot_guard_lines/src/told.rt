@@ -1,6 +1,6 @@
 //! What is told beside the events of an instant.
 
-ghost use Rattle.sot_guard_lines.specs.Lines.{ready_line, end_line, state_of, state_name};
+ghost use Rattle.sot_guard_lines.specs.Lines.{end_line, state_of, state_name};
 ghost use Rattle.sot_guard_lines.specs.Lines.{ends_text, observed_text, outside_line};
 ghost use Rattle.sot_lang.specs.Names.{plant_name};
 
@@ -8,14 +8,6 @@ use sot_box::Interval;
 use sot_lang::{PlantInfo, Typed};
 use sot_text_output::Out;
 use sot_trace::{put_count, put_name, put_number, put_time};
-
-/// That an instant was gone through: the tick may come.
-pub fn put_ready<O: Out>(out: &mut O, time: u64)
-    ensures { O.puts out.old out.new (ready_line time) }
-{
-    put_time(out, time);
-    out.put(" ready")
-}
 
 // The name of a plant, and nothing where there is none.
 fn put_plant<O: Out>(out: &mut O, p: &Typed, plant: u32)

@@ -10,7 +10,7 @@ use Rattle.sot_guard_protocol.specs.Talks.{Talking}
 use Rattle.sot_guard_protocol.proofs.Conversing.{comes_back, talks_safe}
 use Rattle.sot_guard_program.specs.Conversations.{Begins, StaysSafe}
 use Rattle.sot_guard_program.specs.Moments.{Ears, Mouth, Ended}
-use Rattle.sot_guard_program.specs.Says.{SaysTalk}
+use Rattle.sot_guard_program.specs.Says.{SaysBegun}
 use Rattle.sot_guard_program.specs.Beginning.{SaysFrom, SaysOpened}
 use Rattle.sot_guard_program.proofs.Passing.{ended_so}
 use Rattle.sot_guard_program.proofs.Answering.{answers_heard}
@@ -36,7 +36,7 @@ stays_safe a t rules certified begins lines u text answers trusted =
 -- what is said in a talk is said behind the starts of all plants
 pub begun : (a : Starting) (t : Talking) (ended : Bool) (e f : Ears) (x y : Mouth) (status : ℕ) → MeetsTableRules a.accepted.program
     → IsWellCertified a.accepted.program a.accepted.cert.jitter a.accepted.cert → Begins a t
-    → Ended (SaysFrom ended (SaysTalk t (length a.starts))) e f x y status → Ended (SaysFrom ended (SaysOpened a)) e f x y status
+    → Ended (SaysFrom ended (SaysBegun t (length a.starts))) e f x y status → Ended (SaysFrom ended (SaysOpened a)) e f x y status
 begun a t ended e f x y status rules certified begins r =
-    ended_so (SaysFrom ended (SaysTalk t (length a.starts))) (SaysFrom ended (SaysOpened a)) e f x y status
+    ended_so (SaysFrom ended (SaysBegun t (length a.starts))) (SaysFrom ended (SaysOpened a)) e f x y status
     (λ said bytes text says. (inl (t, begins, stays_safe a t rules certified begins, says.0), says.1)) r

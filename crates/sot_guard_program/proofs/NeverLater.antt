@@ -24,7 +24,7 @@ talk_not_six t before b said spoken text (inr (inr so_far)) = λ six. absurd (om
 -- nothing is said behind the answer to the mission
 robot_silent : (acc : Admitted) (b : Ears) (said : ℕ) (spoken : List (List ℕ)) (text : List ℕ) → SaysRobot acc b said spoken text → said ≡ 6 → text ≡ []
 robot_silent acc b said spoken text (inl talks) six =
-    absurd (talk_not_six talks.first _ b said talks.more text talks.says six)
+    absurd (talk_not_six talks.first _ b said talks.more talks.says.0 talks.says.2 six)
 robot_silent acc b said spoken text (inr (inl refuses)) six = absurd (omega (arith, refuses.said_is, six))
 robot_silent acc b said spoken text (inr (inr (inl mistakes))) six = absurd (omega (arith, mistakes.said_is, six))
 robot_silent acc b said spoken text (inr (inr (inr (inl so_far)))) six = absurd (omega (arith, so_far.said_is, six))

@@ -15,7 +15,7 @@ use Rattle.sot_guard_program.specs.Lines.{missing_word, at_line}
 use Rattle.sot_guard_protocol.specs.Answers.{misheard_word}
 use Rattle.sot_guard_program.specs.Conversations.{unopened, Starts}
 use Rattle.sot_guard_program.specs.Moments.{Ears, Mouth, Passes, Ended}
-use Rattle.sot_guard_program.specs.Says.{IsAtFault, IsUnheldLine, SaysTalk, SaysRobot}
+use Rattle.sot_guard_program.specs.Says.{IsAtFault, IsUnheldLine, SaysBegun, SaysRobot}
 use Rattle.sot_guard_program.specs.Hearing.{HearsFirsts, HaltsFirsts, StopsFirst}
 use Rattle.sot_guard_program.specs.Tellings.{Tells, TellsStop}
 use Rattle.sot_guard_program.specs.Beginning.{SaysIn, SaysFrom, SaysOpened}
@@ -124,7 +124,7 @@ module _ (acc : Admitted) (e f : Ears) (x y : Mouth) (status : ℕ) where
           started = h.starts;
           begins = begins;
           safe = stays;
-          says = subst (λ n. SaysTalk t n f said (lent_lines bytes) text) count talk;
+          says = subst (λ n. SaysBegun t n f said (lent_lines bytes) text) count talk;
         })
     says_robot said bytes text (inr (inl (is, empty, unheld)), none) =
         inr (inl (record {

@@ -17,7 +17,7 @@ use Rattle.sot_guard_protocol.specs.Openings.{Starting}
 use Rattle.sot_guard_protocol.specs.Talks.{Talking}
 use Rattle.sot_guard_program.specs.Conversations.{Begins, StaysSafe}
 use Rattle.sot_guard_program.specs.Moments.{Ears}
-use Rattle.sot_guard_program.specs.Says.{SaysTalk, SaysRobot, HasSectionFault}
+use Rattle.sot_guard_program.specs.Says.{SaysBegun, SaysRobot, HasSectionFault}
 use Rattle.sot_guard_program.specs.Says.{IsSilent, IsUnheldLine}
 
 -- what is said of bytes by their lines
@@ -34,7 +34,7 @@ SaysFrom ended SaysLines b said bytes text =
 -- what is said behind the starts of all plants
 abbrev pub SaysOpened : Starting → Ears → ℕ → List (List ℕ) → List ℕ → Type 0
 SaysOpened a b said spoken text =
-    ((t : Talking) × Begins a t × StaysSafe t × SaysTalk t (length a.starts) b said spoken text)
+    ((t : Talking) × Begins a t × StaysSafe t × SaysBegun t (length a.starts) b said spoken text)
     ⊎ ((said ≡ 1) × (spoken ≡ []) × IsUnheldLine a.accepted a.starts text)
     ⊎ ((spoken ≡ []) × IsSilent said text)
 

@@ -29,10 +29,10 @@ use Rattle.sot_guard.specs.declared.misheard.Misheard.TheVariants.{NotALine}
 use Rattle.sot_guard.specs.Resuming.{IsStartUnsafe}
 use Rattle.sot_guard_lines.specs.Lines.{end_line}
 use Rattle.sot_guard_protocol.specs.Openings.{Starting, HasAll, IsNoStart}
-use Rattle.sot_guard_protocol.specs.Talks.{Talking, time_of, IsOver}
+use Rattle.sot_guard_protocol.specs.Talks.{Talking, tables_of, time_of, IsOver}
 use Rattle.sot_guard_input.specs.Fronts.{HasNone, IsFront, IsMark, IsTooLong}
 use Rattle.sot_guard_program.specs.Lines.{usage_text, missing_word, at_line}
-use Rattle.sot_guard_protocol.specs.Answers.{misheard_word}
+use Rattle.sot_guard_protocol.specs.Answers.{begins_text, misheard_word}
 use Rattle.sot_guard_program.specs.Conversations.{unopened, Starts, Begins, Answers, StaysSafe}
 use Rattle.sot_guard_program.specs.Moments.{Ears}
 
@@ -95,6 +95,12 @@ SaysTalk t before b said spoken text =
     Closes t before b said spoken text ⊎ Mistakes t before b said spoken text
     ⊎ GoesSoFar t said spoken text
 
+-- that a talk begins is said first, and then what is said in it
+abbrev pub SaysBegun : Talking → ℕ → Ears → ℕ → List (List ℕ) → List ℕ → Type 0
+SaysBegun t before b said spoken text =
+    (more : List ℕ) × (text ≡ begins_text (tables_of t) (time_of t) ++ more)
+    × SaysTalk t before b said spoken more
+
 -- a talk about an accepted program, which stays safe whatever is said
 pub record Talks (acc : Admitted) (b : Ears) (said : ℕ) (spoken : List (List ℕ)) (text : List ℕ)
     : Type 0 where
@@ -106,7 +112,7 @@ pub record Talks (acc : Admitted) (b : Ears) (said : ℕ) (spoken : List (List �
   pub started : Starts (unopened acc) starts opening
   pub begins : Begins opening first
   pub safe : StaysSafe first
-  pub says : SaysTalk first (length starts) b said more text
+  pub says : SaysBegun first (length starts) b said more text
 
 -- the line of the first module whose plant the first commands do not hold safe until the module's
 -- safe node fires, with where that plant was observed

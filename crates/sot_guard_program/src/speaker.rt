@@ -1,11 +1,12 @@
 //! A talk that answers each line as soon as it is heard.
 
-ghost use Rattle.std.specs.Prelude.{◌≡◌, false};
+ghost use Rattle.std.specs.Prelude.{◌≡◌, false, OnOk, OnErr};
 ghost use Rattle.sot_guard_input.specs.Reading.{IsLine};
-ghost use Rattle.sot_guard_protocol.specs.Talks.{IsOver};
-ghost use Rattle.sot_guard_program.specs.Moments.{ears, mouth};
+ghost use Rattle.sot_guard_protocol.specs.Answers.{begins_text};
+ghost use Rattle.sot_guard_protocol.specs.Talks.{tables_of, time_of, IsOver};
+ghost use Rattle.sot_guard_program.specs.Moments.{ears, mouth, Utters};
 ghost use Rattle.sot_guard_program.specs.Hearing.{AnswersLine, PassesTaken};
-ghost use Rattle.sot_guard_program.specs.Hearing.{AnswersNext, AnswersAll};
+ghost use Rattle.sot_guard_program.specs.Hearing.{AnswersNext, AnswersAll, CutsOff};
 ghost use Rattle.sot_guard_program.specs.Says.{end_status};
 ghost use Rattle.sot_guard_program.specs.Tellings.{TellsStop, TellsEnd};
 
@@ -39,6 +40,24 @@ fn answer<K: Sink>(
     waiting.clear();
     let mut spool = Spool::new(waiting, sink);
     let _ = talk.hear(line, &mut spool);
+    match spool.end() {
+        Ok(()) => Ok(()),
+        Err(_) => Err(Stop::Sink),
+    }
+}
+
+// Writes through these bytes that a talk begins.
+fn tell_begins<K: Sink>(talk: &Talk<'_>, waiting: &mut Vec<u8>, sink: &mut K) -> Result<(), Stop>
+    ensures well { OnOk result (Utters (mouth (K.held sink.old) (K.faults sink.old))
+        (mouth (K.held sink.new) (K.faults sink.new))
+        (begins_text (tables_of talk.now) (time_of talk.now))) }
+    ensures cut { OnErr result (CutsOff (mouth (K.held sink.old) (K.faults sink.old))
+        (mouth (K.held sink.new) (K.faults sink.new))
+        (begins_text (tables_of talk.now) (time_of talk.now))) }
+{
+    waiting.clear();
+    let mut spool = Spool::new(waiting, sink);
+    talk.greet(&mut spool);
     match spool.end() {
         Ok(()) => Ok(()),
         Err(_) => Err(Stop::Sink),
@@ -103,6 +122,19 @@ impl<'a> Speaker<'a> {
             Ok(None) => Ok(false),
             Err(stop) => Err(stop),
         }
+    }
+
+    /// Writes that the talk begins.
+    pub(crate) fn greet<K: Sink>(&mut self, sink: &mut K) -> Result<(), Stop>
+        ensures same { self.new.talk ≡ self.old.talk }
+        ensures well { OnOk result (Utters (mouth (K.held sink.old) (K.faults sink.old))
+            (mouth (K.held sink.new) (K.faults sink.new))
+            (begins_text (tables_of self.old.talk) (time_of self.old.talk))) }
+        ensures cut { OnErr result (CutsOff (mouth (K.held sink.old) (K.faults sink.old))
+            (mouth (K.held sink.new) (K.faults sink.new))
+            (begins_text (tables_of self.old.talk) (time_of self.old.talk))) }
+    {
+        tell_begins(&self.talk, &mut self.waiting, sink)
     }
 
     /// Hears line by line until the talk is over or the lines end. The next line has this number.

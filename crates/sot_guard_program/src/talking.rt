@@ -7,7 +7,7 @@ ghost use Rattle.sot_trace.specs.Words.{AreWords};
 ghost use Rattle.sot_guard_protocol.specs.Openings.{HasAll};
 ghost use Rattle.sot_guard_input.specs.Reading.{IsSettled};
 ghost use Rattle.sot_guard_program.specs.Moments.{ears, mouth, Ended};
-ghost use Rattle.sot_guard_program.specs.Says.{SaysTalk, SaysRobot};
+ghost use Rattle.sot_guard_program.specs.Says.{SaysTalk, SaysBegun, SaysRobot};
 ghost use Rattle.sot_guard_program.specs.Beginning.{SaysOpened, SaysIn, SaysFrom};
 
 use crate::halt::stopped;
@@ -50,6 +50,28 @@ fn talk_on<S: Source, K: Sink>(
     }
 }
 
+// Says that a talk begins, and goes on with it.
+fn begin_talk<S: Source, K: Sink>(
+    mut speaker: Speaker<'_>,
+    lines: usize,
+    ear: &mut Ear,
+    source: &mut S,
+    sink: &mut K,
+) -> Status
+    requires few { lines < 2 ^ 64 - 1 }
+    requires settled { IsSettled (S.left source.old) ear.old.buffer ear.old.ended }
+    ensures { Ended (SaysFrom ear.old.ended (SaysBegun speaker.entry.talk lines))
+        (ears (S.left source.old) (S.faults source.old) ear.old)
+        (ears (S.left source.new) (S.faults source.new) ear.new)
+        (mouth (K.held sink.old) (K.faults sink.old))
+        (mouth (K.held sink.new) (K.faults sink.new)) result.0 }
+{
+    match speaker.greet(sink) {
+        Ok(()) => talk_on(speaker, lines, ear, source, sink),
+        Err(_) => Status(5),
+    }
+}
+
 // Begins a talk about plants that were all observed.
 fn begin<S: Source, K: Sink>(
     alloc: Global,
@@ -76,7 +98,7 @@ fn begin<S: Source, K: Sink>(
         Err(_) => return Status(6),
     };
     match Talk::begin(alloc, opening) {
-        Ok(talk) => talk_on(Speaker { talk, waiting }, starts.len(), ear, source, sink),
+        Ok(talk) => begin_talk(Speaker { talk, waiting }, starts.len(), ear, source, sink),
         Err(BeginFail::NotHeldSafe { module }) => tell(unheld(alloc, p, &starts, module), sink),
         Err(BeginFail::Memory) => Status(6),
     }

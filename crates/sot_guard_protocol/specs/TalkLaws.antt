@@ -1,11 +1,18 @@
 -- What a robot says line by line, and what that makes of the mission.
-use Rattle.std.specs.Prelude.{ℕ, ℤ, true, List, [], ◌∷◌, ◌++◌, ◌≡◌, ◌⊎◌, codes}
+use Rattle.std.specs.Prelude.{ℕ, suc, ℤ, true, List, [], ◌∷◌, ◌++◌, ◌≡◌, ◌⊎◌, ◌↔◌, codes}
+use Rattle.std.specs.Prelude.{Option, None}
+use Rattle.sot_lists.specs.Places.{At}
+use Rattle.sot_lang.specs.declared.tables.NodeInfo.{NodeInfo}
+use Rattle.sot_lang.specs.Tables.{Tables}
 use Rattle.sot_lang.specs.TableRules.{MeetsTableRules}
 use Rattle.sot_tube.specs.Certified.{IsWellCertified}
 use Rattle.sot_world.specs.Headline.{IsSafeNow}
-use Rattle.sot_guard.specs.Hearing.{jitter_of, Resumes}
+use Rattle.sot_world.specs.Configurations.{Configuration, IsOpening, is_left}
+use Rattle.sot_guard.specs.declared.outside.Outside.{Outside}
+use Rattle.sot_guard.specs.Hearing.{Hearing, program_of, jitter_of, Resumes}
+use Rattle.sot_guard.specs.Hearing.{GoesThrough, TakesTick}
 use Rattle.sot_guard.specs.Conversations.{IsObserved, KeepsTubesInTrust}
-use Rattle.sot_guard_lines.specs.Lines.{resumed_line}
+use Rattle.sot_guard_lines.specs.Lines.{resumed_line, is_due}
 use Rattle.sot_guard_protocol.specs.declared.heard.Heard.{Heard}
 use Rattle.sot_guard_protocol.specs.Talks.{Talking, tables_of, time_of, HearsSo}
 
@@ -72,3 +79,20 @@ TrustedTalksAreSafe =
     → IsWellCertified (tables_of t) (jitter_of t.hearing) t.hearing.guarding.accepted.cert
     → KeepsTalkTubes t → HearsLines t lines u → u.hearing.guarding.trusted ≡ true
     → IsSafeNow (tables_of t) (jitter_of t.hearing) u.hearing.guarding.at
+
+-- at the beginning of a talk a node is left to fire exactly where it is due: `begins` names those
+-- that are external
+abbrev pub BeginsNamesWhoIsHeard : Type 0
+BeginsNamesWhoIsHeard =
+    (p : Tables) (starts : List (List ℤ)) (C : Configuration) → IsOpening p starts C
+    → (n : ℕ) (node : NodeInfo) → At p.nodes n node
+    → (is_left C n ≡ true) ↔ (is_due node C.time ≡ true)
+
+-- behind an instant that was gone through and a tick that was taken, whether a plant is outside or
+-- not, an external node is left to fire exactly where `ready` named it: then its draft is taken
+abbrev pub ReadyNamesWhoIsHeard : Type 0
+ReadyNamesWhoIsHeard =
+    (h k u : Hearing) (points : List (List ℤ)) (outside : Option Outside)
+    → MeetsTableRules (program_of h) → GoesThrough h k → TakesTick k points outside u
+    → (n : ℕ) (node : NodeInfo) → At (program_of h).nodes n node → node.body ≡ None
+    → (is_left u.guarding.at n ≡ true) ↔ (is_due node (suc h.guarding.at.time) ≡ true)

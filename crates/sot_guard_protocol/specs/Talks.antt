@@ -140,7 +140,7 @@ pub record Ignores (t : Talking) (line : List ℕ) (h : Heard) (answer : List (L
   pub misheard : Mishears t line why
   pub heard_is : h ≡ heard.Ignored
   pub same : u ≡ t
-  pub answered : answer ≡ ignored_line (time_of t) aside why ∷ []
+  pub answered : answer ≡ ignored_line (tables_of t) (time_of t) aside line why ∷ []
 
 -- the plants are lost from sight: a tick passes unseen where one was to come; and in an instant the
 -- models are trusted no more

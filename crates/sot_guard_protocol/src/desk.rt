@@ -249,7 +249,8 @@ impl<'a> SessionDesk<'a> {
         requires misheard { Mishears self.old line.now why }
         ensures { Hears self.old line.now result self.new (O.puts out.old out.new) }
     {
-        put_ignored(out, self.session.guard().time(), aside, why);
+        let guard = self.session.guard();
+        put_ignored(out, guard.typed(), guard.time(), aside, line, why);
         Heard::Ignored
     }
 

@@ -10,6 +10,7 @@ ghost use Rattle.sot_trace.specs.Traces.{text_of};
 ghost use Rattle.sot_trace.specs.Lines.{line_of};
 ghost use Rattle.sot_world.specs.HistoryEntry.{InputAt};
 
+use crate::about::put_about;
 use crate::aside::Aside;
 use sot_guard::{Misheard, Outside, Told};
 use sot_guard_lines::{put_hold, put_outside, put_ready, put_refused_resume, put_resumed};
@@ -54,10 +55,10 @@ fn put_holds<O: Out>(out: &mut O, p: &Typed, time: u64, scalars: &[i64])
 }
 
 // The line that ends an instant.
-fn put_end_of_instant<O: Out>(out: &mut O, time: u64)
-    ensures { O.puts out.old out.new (text_of (ready_line time ∷ [])) }
+fn put_end_of_instant<O: Out>(out: &mut O, p: &Typed, time: u64)
+    ensures { O.puts out.old out.new (text_of (ready_line p.now time ∷ [])) }
 {
-    put_ready(out, time);
+    put_ready(out, p, time);
     out.put_byte(b'\n')
 }
 
@@ -70,7 +71,7 @@ pub(crate) fn put_instant<O: Out>(out: &mut O, p: &Typed, time: u64, told: &[Tol
 {
     put_all_told(out, p, time, told);
     put_holds(out, p, time, scalars);
-    put_end_of_instant(out, time)
+    put_end_of_instant(out, p, time)
 }
 
 /// The line of a state variable that was observed outside its interval, if one was.
@@ -138,21 +139,37 @@ fn aside_word(aside: Aside) -> &'static str
 }
 
 // The line of a draft, an input or a resume that is not taken, without its line end.
-fn put_ignored_line<O: Out>(out: &mut O, time: u64, aside: Aside, why: Misheard)
-    ensures { O.puts out.old out.new (ignored_line time aside why) }
+fn put_ignored_line<O: Out>(
+    out: &mut O,
+    p: &Typed,
+    time: u64,
+    aside: Aside,
+    line: &[u8],
+    why: Misheard,
+)
+    ensures { O.puts out.old out.new (ignored_line p.now time aside line.now why) }
 {
     put_time(out, time);
     out.put(" ignored ");
     out.put(aside_word(aside));
+    put_about(out, p, aside, line);
     out.put_byte(b' ');
     out.put(misheard_word(why))
 }
 
 /// The line of a draft, an input or a resume that is not taken.
-pub(crate) fn put_ignored<O: Out>(out: &mut O, time: u64, aside: Aside, why: Misheard)
-    ensures { O.puts out.old out.new (text_of (ignored_line time aside why ∷ [])) }
+pub(crate) fn put_ignored<O: Out>(
+    out: &mut O,
+    p: &Typed,
+    time: u64,
+    aside: Aside,
+    line: &[u8],
+    why: Misheard,
+)
+    ensures { O.puts out.old out.new
+        (text_of (ignored_line p.now time aside line.now why ∷ [])) }
 {
-    put_ignored_line(out, time, aside, why);
+    put_ignored_line(out, p, time, aside, line, why);
     out.put_byte(b'\n')
 }
 

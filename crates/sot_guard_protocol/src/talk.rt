@@ -8,14 +8,16 @@ ghost use Rattle.sot_guard.specs.Resuming.{AreHeldSafe, AtOpening, IsStartUnsafe
 ghost use Rattle.sot_guard.specs.Hearing.{NoDrafts};
 ghost use Rattle.sot_guard.specs.declared.turn.SessionEvent.TheVariants.{Instant};
 ghost use Rattle.sot_guard_lines.specs.Lines.{end_line};
-ghost use Rattle.sot_guard_protocol.specs.Talks.{time_of, TakesLine, Hears, Mishears, IsOver};
+ghost use Rattle.sot_guard_protocol.specs.Answers.{begins_text};
+ghost use Rattle.sot_guard_protocol.specs.Talks.{tables_of, time_of, TakesLine, Hears, Mishears};
+ghost use Rattle.sot_guard_protocol.specs.Talks.{IsOver};
 ghost use Rattle.sot_guard_protocol.specs.Openings.{HasAll};
 
 use crate::desk::SessionDesk;
 use crate::heard::Heard;
 use crate::opening::TalkOpening;
 use sot_guard::{BeginFail, LAST_TIME, Misheard, Session, SessionEvent};
-use sot_guard_lines::{put_end, read_said};
+use sot_guard_lines::{put_begins, put_end, read_said};
 use sot_text_output::Out;
 use std::alloc::Global;
 use std::marker::Model;
@@ -127,6 +129,15 @@ impl<'a> Talk<'a> {
         ensures { result ≡ self.now.hearing.guarding.trusted }
     {
         self.desk.session().guard().trusted()
+    }
+
+    /// Puts the first line, that the talk begins, with the external nodes that are due at its time.
+    pub fn greet<O: Out>(&self, out: &mut O)
+        ensures { O.puts out.old out.new (begins_text (tables_of self.now) (time_of self.now)) }
+    {
+        let guard = self.desk.session().guard();
+        put_begins(out, guard.typed(), guard.time());
+        out.put_byte(b'\n')
     }
 
     /// Puts the last line: the time, and how many inputs, decisions, firings and ticks there were.

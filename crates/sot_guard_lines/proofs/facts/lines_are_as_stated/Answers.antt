@@ -8,8 +8,11 @@ returns-clause-hold c g = (refl, refl, refl)
 pub returns-clause-outside : goal.returns-clause-outside
 returns-clause-outside c g = (refl, refl)
 
+pub returns-clause-ready : goal.returns-clause-ready
+returns-clause-ready c g = (refl, refl, refl, refl, refl, refl, refl)
+
 pub returns-clause-others : goal.returns-clause-others
-returns-clause-others c = (refl, refl, refl)
+returns-clause-others c = refl
 
 pub returns-clause-resume : goal.returns-clause-resume
 returns-clause-resume c p = resumes_alone p

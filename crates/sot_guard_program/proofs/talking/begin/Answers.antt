@@ -7,7 +7,7 @@ use Rattle.sot_tube.specs.Certified.{IsWellCertified}
 use Rattle.sot_guard.specs.declared.begin_fail.BeginFail.{BeginFail}
 use Rattle.sot_guard.specs.Resuming.{IfNotHeld, IsStartUnsafe}
 use Rattle.sot_guard_program.specs.Moments.{ears, mouth, Ended}
-use Rattle.sot_guard_program.specs.Says.{SaysTalk}
+use Rattle.sot_guard_program.specs.Says.{SaysBegun}
 use Rattle.sot_guard_program.specs.Tellings.{IsStartLine}
 use Rattle.sot_guard_program.specs.Beginning.{SaysFrom, SaysOpened}
 use Rattle.sot_guard_program.proofs.Passing.{passes_nil}
@@ -25,10 +25,10 @@ returns-in-Ok-begin g c =
     let t = c.in-Ok-begin.talk in
     let ended = c.args.ear.now.ended in
     let e = ears (g.S.Source.left c.args.source.now) (g.S.Source.faults c.args.source.now) c.args.ear.now in
-    let f = ears (g.S.Source.left c.talk_on.new.source) (g.S.Source.faults c.talk_on.new.source) c.talk_on.new.ear in
+    let f = ears (g.S.Source.left c.begin_talk.new.source) (g.S.Source.faults c.begin_talk.new.source) c.begin_talk.new.ear in
     let x = mouth (g.K.Sink.held c.args.sink.now) (g.K.Sink.faults c.args.sink.now) in
-    let y = mouth (g.K.Sink.held c.talk_on.new.sink) (g.K.Sink.faults c.talk_on.new.sink) in
-    let status = c.talk_on.result.0 in
+    let y = mouth (g.K.Sink.held c.begin_talk.new.sink) (g.K.Sink.faults c.begin_talk.new.sink) in
+    let status = c.begin_talk.result.0 in
     let as_program = sym c.requires.program in
     let rules = subst (λ (p : Tables). MeetsTableRules p) as_program c.requires.rules in
     let certified = subst (λ (p : Tables). IsWellCertified p a.accepted.cert.jitter a.accepted.cert) as_program c.requires.certified in
@@ -46,7 +46,7 @@ returns-in-Ok-begin g c =
       no_drafts = begins.no_drafts;
       no_events = begins.no_events;
     })
-    (subst (λ (n : ℕ). Ended (SaysFrom ended (SaysTalk t n)) e f x y status) count c.talk_on.ensures)
+    (subst (λ (n : ℕ). Ended (SaysFrom ended (SaysBegun t n)) e f x y status) count c.begin_talk.ensures)
 
 pub unheld-requires-clause-there : goal.unheld-requires-clause-there
 unheld-requires-clause-there g c =

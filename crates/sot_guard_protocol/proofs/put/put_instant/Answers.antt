@@ -11,7 +11,7 @@ returns g c =
     let p = c.args.p.now in
     let told = map (told_line p c.args.time) c.args.told.now in
     let holds = hold_lines p c.args.time c.args.scalars.now 0 p.plants in
-    let end = ready_line c.args.time ∷ [] in
+    let end = ready_line p c.args.time ∷ [] in
     let more = g.met.O.Out.more in
     put_so g.O.Out.puts _ _ _ _ (more _ _ _ _ _ c.put_all_told.ensures (more _ _ _ _ _ c.put_holds.ensures c.put_end_of_instant.ensures))
     (sym (text_of-append told (holds ++ end) ∙ ap (λ x. text_of told ++ x) (text_of-append holds end)))
