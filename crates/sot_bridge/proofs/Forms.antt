@@ -22,7 +22,7 @@ use Rattle.sot_flight.specs.Relayed.{Send, relayed, MayRelay}
 use Rattle.sot_board.specs.Flown.{Position, IsStart, FlownBy}
 use Rattle.sot_board.specs.Standing.{Standing}
 use Rattle.sot_trace.specs.Traces.{trace_text}
-use Rattle.sot_workers.specs.Flying.{HasNoGuests}
+use Rattle.sot_ordered_board.specs.Crews.{HasNoGuests}
 use Rattle.sot_report.specs.declared.fault.Fault.{Fault}
 use Rattle.sot_report.specs.Missions.{HasFault}
 use Rattle.sot_report.specs.FaultTexts.{fault_text}

@@ -1,6 +1,6 @@
 //! The flights of two missions that join.
 
-ghost use Rattle.std.specs.Prelude.{◌≡◌, ℕ, ◌<◌, ◌≤◌, ◌++◌, List, length, map, IfOk};
+ghost use Rattle.std.specs.Prelude.{◌≡◌, ℕ, ◌<◌, ◌≤◌, ◌++◌, List, [], length, map, IfOk};
 ghost use Rattle.std.specs.String.{string_bytes};
 ghost use Rattle.sot_lang.specs.CertRules.{FitsTables};
 ghost use Rattle.sot_lang.specs.TableRules.{MeetsTableRules};
@@ -9,7 +9,7 @@ ghost use Rattle.sot_flight.specs.Fits.{FitsFlight};
 ghost use Rattle.sot_flight.specs.Relayed.{send_of, MayRelay};
 ghost use Rattle.sot_board.specs.Flown.{FlownBy};
 ghost use Rattle.sot_trace.specs.Traces.{trace_text};
-ghost use Rattle.sot_workers.specs.Flying.{HasNoGuests};
+ghost use Rattle.sot_ordered_board.specs.Crews.{HasNoGuests};
 ghost use Rattle.sot_bridge.specs.Answers.{Joins};
 ghost use Rattle.sot_bridge.specs.Sides.{side_of, side_with};
 ghost use Rattle.sot_bridge.specs.Steps.{IsFirstFlown, SaysRelayed, SaysSecond};
@@ -26,9 +26,10 @@ use sot_flight::{Flight, Sent};
 use sot_lang::Typed;
 use sot_trace::board_text;
 use sot_tube::Accepted;
-use sot_workers::fly_alone;
+use sot_workers::fly_without_guests;
 use sot_world::OpenFail;
 use std::alloc::{AllocError, Global};
+use std::sync::Wait;
 use std::thread::Threads;
 
 /// What became of the first mission's flight: its trace, and what it sent.
@@ -39,16 +40,22 @@ struct FirstFlown {
 }
 
 // Flies a newly opened board of the first mission.
-fn fly_first(alloc: Global, mut board: Board<'_>, topic: u32) -> Result<FirstFlown, AllocError>
+fn fly_first<R: Threads + Wait + Sync>(
+    rt: &R,
+    alloc: Global,
+    board: Board<'_>,
+    topic: u32,
+) -> Result<FirstFlown, AllocError>
+    requires opened { board.entries ≡ [] }
     requires no_guests { HasNoGuests board.plan }
     requires topic { topic < length board.accepted.program.topics }
     ensures { IfOk result (λ first. IsFirstFlown board.entry.accepted.program
         board.entry.accepted.cert.jitter board.entry.plan topic (string_bytes first.text)
         (map send_of first.sends.items)) }
 {
-    fly_alone(&mut board);
-    let text = board_text(alloc, &board)?;
-    let sends = board_sends(alloc, &board, topic)?;
+    let flown = fly_without_guests(rt, alloc, board)?;
+    let text = board_text(alloc, &flown.board)?;
+    let sends = board_sends(alloc, &flown.board, topic)?;
     Ok(FirstFlown { text, sends })
 }
 
@@ -62,22 +69,29 @@ fn behind(front: String, more: &str) -> Result<Vec<u8>, AllocError>
 }
 
 // Puts the trace of a newly opened board's flight behind a text.
-fn fly_second(alloc: Global, mut board: Board<'_>, front: String) -> Result<Answer, AllocError>
-    requires { HasNoGuests board.plan }
+fn fly_second<R: Threads + Wait + Sync>(
+    rt: &R,
+    alloc: Global,
+    board: Board<'_>,
+    front: String,
+) -> Result<Answer, AllocError>
+    requires opened { board.entries ≡ [] }
+    requires no_guests { HasNoGuests board.plan }
     ensures status { IfOk result (λ answer. answer.status ≡ 0) }
     ensures text { IfOk result (λ answer. (history : List Logged)
         × FlownBy board.entry.accepted.program board.entry.accepted.cert.jitter board.entry.plan
         history × (answer.text.items ≡ string_bytes front
         ++ trace_text board.entry.accepted.program board.entry.plan.start history)) }
 {
-    fly_alone(&mut board);
-    let more = board_text(alloc, &board)?;
+    let flown = fly_without_guests(rt, alloc, board)?;
+    let more = board_text(alloc, &flown.board)?;
     let text = behind(front, more.as_str())?;
     Ok(Answer { status: 0, text })
 }
 
 // Flies the second mission, whose flight has what the first sent among its inputs.
-fn fly_relayed<'b>(
+fn fly_relayed<'b, R: Threads + Wait + Sync>(
+    rt: &R,
     alloc: Global,
     text: String,
     accepted: &'b Accepted<'b>,
@@ -88,7 +102,7 @@ fn fly_relayed<'b>(
         relayed.now (string_bytes text) answer.status answer.text.items) }
 {
     match Board::open(alloc, accepted, relayed) {
-        Ok(board) => fly_second(alloc, board, text),
+        Ok(board) => fly_second(rt, alloc, board, text),
         Err(OpenFail::NotSafer { module }) => {
             outside(alloc, Which::B, accepted.typed(), relayed, module)
         }
@@ -97,7 +111,8 @@ fn fly_relayed<'b>(
 }
 
 // Flies the second mission with what the first sent.
-fn relay_to(
+fn relay_to<R: Threads + Wait + Sync>(
+    rt: &R,
     alloc: Global,
     first: FirstFlown,
     accepted: &Accepted<'_>,
@@ -113,7 +128,7 @@ fn relay_to(
         answer.status answer.text.items) }
 {
     let relayed = flight.relay(alloc, accepted.typed(), topic, &first.sends, delay)?;
-    fly_relayed(alloc, first.text, accepted, &relayed)
+    fly_relayed(rt, alloc, first.text, accepted, &relayed)
 }
 
 // A look at the tables brings their rules, which their type keeps.
@@ -124,7 +139,8 @@ fn look_at(p: &Typed)
 }
 
 // Flies two accepted missions that join.
-fn fly_accepted(
+fn fly_accepted<R: Threads + Wait + Sync>(
+    rt: &R,
     alloc: Global,
     a: &Accepted<'_>,
     a_flight: &Flight,
@@ -147,8 +163,8 @@ fn fly_accepted(
     look_at(q);
     match Board::open(alloc, a, a_flight) {
         Ok(board) => {
-            let first = fly_first(alloc, board, joint.from)?;
-            relay_to(alloc, first, b, b_flight, joint.to, delay)
+            let first = fly_first(rt, alloc, board, joint.from)?;
+            relay_to(rt, alloc, first, b, b_flight, joint.to, delay)
         }
         Err(OpenFail::NotSafer { module }) => outside(alloc, Which::A, p, a_flight, module),
         Err(OpenFail::Memory) => Err(AllocError),
@@ -156,7 +172,7 @@ fn fly_accepted(
 }
 
 // Checks the second of two missions that join, the first of which is accepted, and flies both.
-fn fly_checked<R: Threads + Sync>(
+fn fly_checked<R: Threads + Wait + Sync>(
     rt: &R,
     alloc: Global,
     a: &Accepted<'_>,
@@ -174,14 +190,14 @@ fn fly_checked<R: Threads + Sync>(
         delay joint.from joint.to answer.status answer.text.items) }
 {
     match check_all(rt, b.program, b.cert) {
-        Ok(second) => fly_accepted(alloc, a, a_flight, &second, b.flight, joint, delay),
+        Ok(second) => fly_accepted(rt, alloc, a, a_flight, &second, b.flight, joint, delay),
         Err(refusal) => refused(alloc, Which::B, b.program, &refusal),
     }
 }
 
 /// Checks two missions that join, and flies them where both are accepted: the first, and then the
 /// second with what the first sent.
-pub fn fly_both<R: Threads + Sync>(
+pub fn fly_both<R: Threads + Wait + Sync>(
     rt: &R,
     alloc: Global,
     a: &Side<'_>,

@@ -1,5 +1,10 @@
 //! The program, over real words, source and sink.
 
+ghost use Rattle.std.specs.Process.{exit_status};
+ghost use Rattle.sot_ports.specs.Outside.{Outside};
+ghost use Rattle.sot_cli.specs.Words.{EndsAsCalled};
+ghost use Rattle.sot_bridge.specs.Ends.{Ends};
+
 use crate::top::bridge;
 use sot_cli::run_program;
 use sot_ports::Process;
@@ -8,16 +13,20 @@ use std::env::Args;
 use std::io;
 use std::io::{Stdin, Stdout};
 use std::process::ExitCode;
+use std::sync::Wait;
 use std::thread::Threads;
 
 /// What the program does: `bridge`, with its status. The words are those behind the program's name.
-pub fn run<R: Threads + Sync>(
+pub fn run<R: Threads + Wait + Sync>(
     rt: &R,
     alloc: Global,
     args: io::Result<Args>,
     input: Stdin,
     output: Stdout,
-) -> ExitCode {
+) -> ExitCode
+    ensures ends { EndsAsCalled (λ words status. (before : Outside) × (after : Outside)
+        × Ends words before after status) args (exit_status result) }
+{
     run_program(alloc, args, input, output, |words, source, sink| {
         bridge(rt, alloc, words, source, sink, Process::Ends)
     })

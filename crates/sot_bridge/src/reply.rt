@@ -22,6 +22,7 @@ use sot_ports::{Process, let_go};
 use sot_report::{LoadFail, Loaded, load};
 use sot_sections::Need;
 use std::alloc::{AllocError, Global};
+use std::sync::Wait;
 use std::thread::Threads;
 
 /// What the words ask for: the names of two topics, and a delay in ticks.
@@ -45,7 +46,7 @@ fn kind_text(fault: JoinFault) -> &'static str
 }
 
 // Flies two missions by the topics of these names, if they join.
-fn bridged<R: Threads + Sync>(
+fn bridged<R: Threads + Wait + Sync>(
     rt: &R,
     alloc: Global,
     ask: BridgeAsk<'_>,
@@ -85,7 +86,7 @@ fn side_of<'l>(loaded: &'l Loaded<'_>) -> Side<'l>
 }
 
 // The second mission beside the first.
-fn with_first<R: Threads + Sync>(
+fn with_first<R: Threads + Wait + Sync>(
     rt: &R,
     alloc: Global,
     ask: BridgeAsk<'_>,
@@ -115,7 +116,7 @@ fn with_first<R: Threads + Sync>(
 
 /// Reads two missions that a line `%bridge` divides, checks them, flies the first, and flies the
 /// second with what the first published.
-pub fn reply_of<R: Threads + Sync>(
+pub fn reply_of<R: Threads + Wait + Sync>(
     rt: &R,
     alloc: Global,
     ask: BridgeAsk<'_>,

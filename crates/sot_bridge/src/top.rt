@@ -13,6 +13,7 @@ use crate::words::{DelayFail, delay_of};
 use sot_cli::{Answer, INPUT_LIMIT, Status, fixed, or_memory, read_input, say, too_long};
 use sot_ports::{Process, ReadFail, Sink, Source};
 use std::alloc::Global;
+use std::sync::Wait;
 use std::thread::Threads;
 
 const USAGE: &str = "usage: soter_bridge TOPIC_A TOPIC_B DELAY\n";
@@ -31,7 +32,7 @@ fn asked<'w>(alloc: Global, words: &'w [String]) -> Result<BridgeAsk<'w>, DelayF
 }
 
 // The answer to what was asked, before anything is written.
-fn perform<R: Threads + Sync, S: Source>(
+fn perform<R: Threads + Wait + Sync, S: Source>(
     rt: &R,
     alloc: Global,
     ask: BridgeAsk<'_>,
@@ -58,7 +59,7 @@ fn perform<R: Threads + Sync, S: Source>(
 
 // The answer to the words, before anything is written.
 #[tactic(auto, using(sot_cli::proofs::Endings::reads_nothing))]
-fn answer_to<R: Threads + Sync, S: Source>(
+fn answer_to<R: Threads + Wait + Sync, S: Source>(
     rt: &R,
     alloc: Global,
     words: &[String],
@@ -81,10 +82,11 @@ fn answer_to<R: Threads + Sync, S: Source>(
 }
 
 /// Does what the words ask, those behind the program's name: reads two missions, flies both with a
-/// bridge between them, and writes one text. No guest is handed in, so it waits for nobody, and
-/// returns. Threads of `rt` check long lists of cells; what is answered does not depend on them.
+/// bridge between them, and writes one text. No guest is handed in, so it waits for its turn in the
+/// flights alone. Threads of `rt` check long lists of cells, and fly nodes; what is answered does
+/// not depend on them.
 /// Where the process ends with this call, what was read is not given back to memory.
-pub fn bridge<R: Threads + Sync, S: Source, K: Sink>(
+pub fn bridge<R: Threads + Wait + Sync, S: Source, K: Sink>(
     rt: &R,
     alloc: Global,
     words: &[String],

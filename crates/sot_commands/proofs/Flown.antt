@@ -15,6 +15,7 @@ use Rattle.sot_world.specs.Opens.{StartInside}
 use Rattle.sot_flight.specs.Plans.{Plan}
 use Rattle.sot_board.specs.Flown.{Position, IsStart, FlownBy}
 use Rattle.sot_board.specs.Standing.{Standing}
+use Rattle.sot_ordered_board.specs.Order.{FliesInOrder}
 use Rattle.sot_report.specs.Missions.{Mission, SaysFlight}
 use Rattle.sot_cli.specs.declared.answer.Answer.{Answer}
 use Rattle.sot_commands.specs.Answers.{IsOutsideOf, SpellsFor}
@@ -39,9 +40,15 @@ tells_here telling acc given f b status said same plan tells =
     subst (λ (g : Plan). Tells telling acc.program g b.entries status said) plan
     (subst (λ (x : Admitted). Tells telling x.program b.plan b.entries status said) (sym same) tells)
 
--- what is told of a history of the flight is told of the flight
+pub in_order_here : (acc : Admitted) (f : Plan) (b : Standing) → b.accepted ≡ acc → b.plan ≡ f
+    → FliesInOrder b.accepted.program b.accepted.cert.jitter b.plan b.entries → FliesInOrder acc.program acc.cert.jitter f b.entries
+in_order_here acc f b is plan order =
+    subst (λ (g : Plan). FliesInOrder acc.program acc.cert.jitter g b.entries) plan
+    (subst (λ (x : Admitted). FliesInOrder x.program x.cert.jitter b.plan b.entries) is order)
+
+-- what is told of a history of the flight, flown in order, is told of the flight
 pub told_of : (telling : Telling) (t : Tables) (jitter : ℕ) (f : Plan) (history : List Logged) (status : ℕ) (text : List ℕ)
-    → StartInside t f.start (length t.modules) → FlownBy t jitter f history
+    → StartInside t f.start (length t.modules) → FliesInOrder t jitter f history
     → Tells telling t f history status text → JudgesFlight telling t jitter f status text
 told_of Trace t jitter f history status text inside flown (inl (plain, zero, said)) = inl (zero, (inside, (history, flown, said)))
 told_of Trace t jitter f history status text inside flown (inr verdict) = absurd verdict

@@ -1,11 +1,11 @@
 -- What becomes of guests.
 use Rattle.std.proofs.Common.{◌≡◌, ◌⊎◌, ⊎_elim, ℕ, zero, suc, List, [], ◌∷◌, Option, None, Some, Result, Ok, Err, inl, inr, refl, sym, ap, ◌∙◌, subst}
-use Rattle.std.proofs.Common.{append-nil, arith, ◌+◌, ◌++◌, ◌<◌, true}
-use Rattle.std.specs.Prelude.{IfOk, ◌==◌, ◌≢◌, vec_len}
+use Rattle.std.proofs.Common.{append-nil, arith, ◌+◌, ◌++◌, ◌<◌}
+use Rattle.std.specs.Prelude.{IfOk, ◌≢◌, vec_len}
 use Rattle.std.specs.Global.{Vec}
 use Rattle.std.specs.Io.KnownBytes.{Appends}
 use Rattle.std.specs.declared.alloc.AllocError.{AllocError}
-use Rattle.std.proofs.lemmas.Bool.{cases_eq, eqb-true}
+use Rattle.std.proofs.lemmas.Bool.{cases_eq}
 use Rattle.std.proofs.lemmas.Option.{same_Some}
 use Rattle.sot_lists.specs.Places.{At}
 use Rattle.sot_lists.proofs.Places.{at_same}
@@ -18,18 +18,15 @@ use Rattle.sot_trace.specs.Traces.{trace_text}
 use Rattle.sot_board.specs.Standing.{Standing}
 use Rattle.sot_fly_worker.specs.Askings.{Asking}
 use Rattle.sot_fly_worker.specs.Answers.{Answered}
-use Rattle.sot_flight.specs.Fits.{FitsFlight}
 use Rattle.sot_workers.specs.Asked.{EachAnswered, EachUnnamedStays}
-use Rattle.sot_workers.specs.Flying.{HasNoGuests}
 use Rattle.sot_cli.specs.declared.answer.Answer.{Answer}
 use Rattle.sot_commands.specs.declared.telling.Telling.{Telling}
 use Rattle.sot_commands.specs.declared.telling.Telling.TheVariants.{Trace, Summary, Verdict}
 use Rattle.sot_commands.specs.WatchTexts.{holds_text, fails_text}
-use Rattle.sot_commands.specs.Steps.{Tells, JudgesFlight, IsBehind, FlewAndTold, GuestsStand, GuestsDid}
+use Rattle.sot_commands.specs.Steps.{Tells, IsBehind, FlewAndTold, GuestsStand, GuestsDid}
 use Rattle.sot_ports.specs.Outside.{Written}
 use Rattle.sot_sections.specs.declared.mission.Need.TheVariants as needs
 use Rattle.sot_commands.specs.Guests.{TellsOn, GuestsGoOn, GuestsFlew, UnnamedStay, IsNoTrace}
-use Rattle.sot_commands.proofs.NoTraces.{outside_no_trace}
 
 -- what is told as before is told on
 tells_same : (o : Option (List Asking)) → TellsOn o o
@@ -101,49 +98,6 @@ module _ (t : Tables) (f : Plan) (history : List Logged) (status : ℕ) (said : 
     unasked_as Summary (inr verdict) more = absurd verdict
     unasked_as (Verdict formula) tells more = inr (flew_as (Verdict formula) (λ e. absurd cc) tells)
 
--- a flight that names no guest was flown by none, so all stay as they are
-module _ {C : Type 0} (told : C → Option (List Asking)) (t : Tables) (jitter : ℕ) (f : Plan) (guests : List C) (none : HasNoGuests f) where
-  flew_by_none : (history : List Logged) → FlownBy t jitter f history → (text : List ℕ) → text ≡ trace_text t f.start history
-      → GuestsFlew told t jitter f text guests guests
-  flew_by_none history flown text is = record {
-    history = history;
-    flown = flown;
-    text_is = is;
-    answered = λ n i was now named at at'. absurd (none n i named);
-    unnamed = λ i was now unnamed at at'. at_same guests i now was at' at;
-  }
-
-  alone_flew : (telling : Telling) (status : ℕ) (said : List ℕ) → JudgesFlight telling t jitter f status said → status ≡ 0 → telling ≢ Summary
-      → FlewAndTold telling status said (λ text. GuestsFlew told t jitter f text guests guests)
-  alone_flew Trace status said (inl (ended, (inside, (history, flown, is)))) none' other =
-      (said, [], (ended, refl), sym (append-nil said), flew_by_none history flown said is)
-  alone_flew Summary status said judged none' other = absurd (other refl)
-  alone_flew (Verdict formula) status said (inl (ended, (inside, (x, history, means, flown, (always, is))))) none' other = (
-    trace_text t f.start history,
-    holds_text (f.horizon + 1),
-    inl (ended, (f.horizon + 1, refl)),
-    is,
-    flew_by_none history flown (trace_text t f.start history) refl,
-  )
-  alone_flew Trace status said (inr (one, more)) none' other = absurd (omega (arith, one, none'))
-  alone_flew (Verdict formula) status said (inr (one, more)) none' other = absurd (omega (arith, one, none'))
-
-  alone_unasked : {X : Type 0} (telling : Telling) (status : ℕ) (said : List ℕ) → X → JudgesFlight telling t jitter f status said → status ≢ 0
-      → (X × IsNoTrace said) ⊎ FlewAndTold telling status said (λ text. GuestsFlew told t jitter f text guests guests)
-  alone_unasked telling status said x (inl (ended, tells)) more = absurd (more ended)
-  alone_unasked telling status said x (inr (one, inl outside)) more = inl (x, outside_no_trace t f said outside)
-  alone_unasked Trace status said x (inr (one, inr fails)) more = absurd fails
-  alone_unasked Summary status said x (inr (one, inr fails)) more = absurd fails
-  alone_unasked (Verdict formula) status said x (inr (one, inr (inside, (y, history, means, flown, (time, first, is))))) more =
-      inr (trace_text t f.start history, fails_text time, inr (one, (time, refl)), is, flew_by_none history flown (trace_text t f.start history) refl)
-
--- where there are no guests, a flight that fits names none
-pub names_none : (p : Tables) (count : ℕ) (f : Plan) → FitsFlight p count f → (count == 0) ≡ true → HasNoGuests f
-names_none p count f fits empty n i named =
-    let none : count ≡ 0 = eqb-true count 0 empty in
-    let there = fits.guests_there n i named in
-    absurd (omega (arith, there, none))
-
 -- and that of the mission that the bytes spell
 told_mapped : (telling : Telling) (status : ℕ) (said : List ℕ) (Fly Flies : List ℕ → Type 0) → ((text : List ℕ) → Fly text → Flies text)
     → FlewAndTold telling status said Fly → FlewAndTold telling status said Flies
@@ -170,15 +124,6 @@ unnamed_stay count bytes guests m f spells is = unnamed_same f guests
 
 pub all_stand : {C : Type 0} (told : C → Option (List Asking)) (Stay : Type 0) (guests : Vec C) → Stay → GuestsStand told Stay guests guests
 all_stand told Stay guests stay = record { count = refl; go_on = stay_told told guests.items; stay = stay }
-
--- of a flight without guests
-pub alone_did : {C : Type 0} (told : C → Option (List Asking)) (telling : Telling) (t : Tables) (jitter : ℕ) (f : Plan) (guests : Vec C) → HasNoGuests f
-    → (status : ℕ) (said : List ℕ) → JudgesFlight telling t jitter f status said
-    → GuestsDid telling status said (λ text. GuestsFlew told t jitter f text guests.items guests.items) guests guests
-alone_did told telling t jitter f guests none status said judged = record {
-  unasked = λ more. alone_unasked told t jitter f guests.items none telling status said refl judged more;
-  flew = λ zero other. alone_flew told t jitter f guests.items none telling status said judged zero other;
-}
 
 -- where no flight was flown, they stay whatever is answered
 pub unflown : {C : Type 0} (telling : Telling) (r : Result Answer AllocError) (Fly : List ℕ → Type 0) (guests : Vec C) (status : ℕ) → 0 < status

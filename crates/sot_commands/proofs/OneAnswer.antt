@@ -1,5 +1,5 @@
 -- What is said of bytes is said in one way.
-use Rattle.std.proofs.Common.{◌≡◌, ℕ, ◌<◌, ℤ, List, [], Some, length, inl, inr, ⊎_elim, sym, ap, ap₂, ◌∙◌, subst, arith}
+use Rattle.std.proofs.Common.{◌≡◌, ℕ, ◌<◌, ℤ, List, [], Some, length, inl, inr, ⊎_elim, refl, sym, ap, ap₂, ◌∙◌, subst, arith}
 use Rattle.std.specs.Prelude.{slice_index_or}
 use Rattle.std.proofs.lemmas.Bool.{cases_lt}
 use Rattle.sot_lists.specs.Places.{At}
@@ -32,6 +32,12 @@ use Rattle.sot_commands.specs.ReplayTexts.{legal_text, refused_line_text}
 use Rattle.sot_commands.specs.Answers.{IsRefused, IsOutsideOf, SpellsFor, DoesNotFly}
 use Rattle.sot_commands.specs.Laws.{AcceptedOnce, RefusedOnce, LinesRefusedOnce}
 use Rattle.sot_commands.proofs.Unique.{same_seen, same_flown, sections, seen, said, look_same, accepted_refused, traced_moved}
+use Rattle.sot_commands.proofs.InOrder.{same_plan, one_history}
+use Rattle.sot_commands.proofs.SameSummaries.{summary_same}
+use Rattle.sot_summary.specs.Summaries.{summary_of}
+use Rattle.sot_summary.specs.SummaryText.{summary_text}
+use Rattle.sot_trace.specs.Traces.{trace_text}
+use Rattle.sot_law_trace_unique.proofs.Looks.{text_same}
 use Rattle.sot_recovery_text.proofs.Alike.{told_once}
 use Rattle.sot_commands.proofs.Replayed.{mission_words}
 use Rattle.sot_commands.proofs.OneText.{refusal_text_same, start_text_same, fail_text_same, certificate_line_same, accepted_text_same}
@@ -139,7 +145,12 @@ lines_refused_once guests bytes m f lines text other x (inside, (number, kind, r
 pub accepted_once : AcceptedOnce
 accepted_once guests Check bytes text other one (m, x, certified, safe, says) (n, y, certified', safe', says') =
     says ∙ accepted_text_same m.tables n.tables (looks needs.Check 0 bytes m n x y) m.cert n.cert (entries_same needs.Check 0 bytes m n x y) ∙ sym says'
-accepted_once guests Fly bytes text other one a b = absurd one
+accepted_once guests Fly bytes text other one (m, x, certified, safe, (f, is, (inside, (h, order, says))))
+    (n, y, certified', safe', (g, is', (inside', (h', order', says')))) =
+    let history = one_history guests one bytes m n x y f g is is' h h' order order' in
+    let plan = same_plan guests one bytes m n x y f g is is' in
+    says ∙ text_same m.tables n.tables (looks needs.Fly guests bytes m n x y) f.start h
+    ∙ (λ i. trace_text n.tables (plan i).start (history i)) ∙ sym says'
 accepted_once guests Replay bytes text other one (m, x, certified, safe, (f, lines, has, (inside, (history, traced, says))))
     (n, y, certified', safe', (g, lines', has', (inside', (history', traced', says')))) =
     let there = traced_moved guests bytes m n x y f g lines lines' has has' history traced in
@@ -158,4 +169,10 @@ accepted_once guests Certify bytes text other one (p, t, spells, resolves, (c, m
     let lines = certificate_line_same t u looks c d (entries_alike t u c d looks fits fits' made made').1 in
     says ∙ (λ i. mission_text (canonical (programs i)) (lines i)) ∙ sym says'
 accepted_once guests (Make n seed) bytes text other one says says' = says ∙ sym says'
-accepted_once guests (Soak n seed) bytes text other one a b = absurd one
+accepted_once guests (Soak k seed) bytes text other one (m, x, certified, safe, (f, is, (inside, (h, order, says))))
+    (n, y, certified', safe', (g, is', (inside', (h', order', says')))) =
+    let made = made_text k seed in
+    let history = one_history 0 refl made m n x y f g is is' h h' order order' in
+    let plan = same_plan 0 refl made m n x y f g is is' in
+    says ∙ ap summary_text (summary_same m.tables n.tables (looks needs.Fly 0 made m n x y) f h)
+    ∙ (λ i. summary_text (summary_of n.tables (plan i) (history i))) ∙ sym says'

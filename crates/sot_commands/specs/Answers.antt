@@ -15,7 +15,7 @@ use Rattle.sot_world.specs.Headline.{EveryRunIsSafe}
 use Rattle.sot_world.specs.HistoryEntry.{Logged}
 use Rattle.sot_world.specs.Opens.{StartInside}
 use Rattle.sot_flight.specs.Plans.{Plan}
-use Rattle.sot_board.specs.Flown.{FlownBy}
+use Rattle.sot_ordered_board.specs.Order.{FliesInOrder}
 use Rattle.sot_trace.specs.Traces.{trace_text}
 use Rattle.sot_summary.specs.Summaries.{summary_of}
 use Rattle.sot_summary.specs.SummaryText.{summary_text}
@@ -71,18 +71,19 @@ IsRefusedFor m r = (verdict m.tables m.cert.jitter m.cert).Refuses r
 
 -- a flight's trace: every plant starts in its module's safer region, and the text is that of a
 -- history of the flight, a run of the program from that start with the flight's inputs,
--- disturbances and stated drafts
+-- disturbances and stated drafts, which is flown in order
 abbrev pub IsTraceOf : Tables → ℕ → Plan → List ℕ → Type 0
 IsTraceOf t jitter f text =
     StartInside t f.start (length t.modules)
-    × ((history : List Logged) × FlownBy t jitter f history × (text ≡ trace_text t f.start history))
+    × ((history : List Logged) × FliesInOrder t jitter f history
+    × (text ≡ trace_text t f.start history))
 
 -- a flight's summary: every plant starts in its module's safer region, and the text is the line of
--- what is counted of a history of the flight
+-- what is counted of a history of the flight, flown in order
 abbrev pub IsSummaryOf : Tables → ℕ → Plan → List ℕ → Type 0
 IsSummaryOf t jitter f text =
     StartInside t f.start (length t.modules)
-    × ((history : List Logged) × FlownBy t jitter f history
+    × ((history : List Logged) × FliesInOrder t jitter f history
     × (text ≡ summary_text (summary_of t f history)))
 
 -- a flight's start is refused: the plant of this module, the first one, starts outside the module's

@@ -14,22 +14,22 @@ use Rattle.sot_commands.specs.declared.words.Command.TheVariants.{Recover, Watch
 use Rattle.sot_commands.specs.declared.words.Command.TheVariants.{Make, Soak}
 use Rattle.sot_commands.specs.Answers.{SpellsFor, IsIllegal, Accepts, Refutes, Rejects}
 
--- the commands that say one thing of what they accept: all but those that fly, since a flight has
--- several histories
-abbrev pub AcceptsOneWay : Command → Type 0
-AcceptsOneWay Check = Unit {0}
-AcceptsOneWay Fly = ⊥
-AcceptsOneWay Replay = Unit {0}
-AcceptsOneWay Recover = Unit {0}
-AcceptsOneWay (Watch formula) = ⊥
-AcceptsOneWay Format = Unit {0}
-AcceptsOneWay Certify = Unit {0}
-AcceptsOneWay (Make n seed) = Unit {0}
-AcceptsOneWay (Soak n seed) = ⊥
+-- the commands that say one thing of what they accept, where so many guests are handed in: a flight
+-- with guests has several histories, and without them it has one. Of `watch` nothing is said
+abbrev pub AcceptsOneWay : ℕ → Command → Type 0
+AcceptsOneWay guests Check = Unit {0}
+AcceptsOneWay guests Fly = guests ≡ 0
+AcceptsOneWay guests Replay = Unit {0}
+AcceptsOneWay guests Recover = Unit {0}
+AcceptsOneWay guests (Watch formula) = ⊥
+AcceptsOneWay guests Format = Unit {0}
+AcceptsOneWay guests Certify = Unit {0}
+AcceptsOneWay guests (Make n seed) = Unit {0}
+AcceptsOneWay guests (Soak n seed) = Unit {0}
 
 abbrev pub AcceptedOnce : Type 0
 AcceptedOnce =
-    (guests : ℕ) (command : Command) (bytes text other : List ℕ) → AcceptsOneWay command
+    (guests : ℕ) (command : Command) (bytes text other : List ℕ) → AcceptsOneWay guests command
     → Accepts guests command bytes text → Accepts guests command bytes other → text ≡ other
 
 -- bytes are refused with one text: the first condition that fails with its evidence, the start, or

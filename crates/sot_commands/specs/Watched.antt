@@ -4,7 +4,7 @@ use Rattle.sot_lang.specs.Tables.{Tables}
 use Rattle.sot_world.specs.HistoryEntry.{Logged}
 use Rattle.sot_world.specs.Opens.{StartInside}
 use Rattle.sot_flight.specs.Plans.{Plan}
-use Rattle.sot_board.specs.Flown.{FlownBy}
+use Rattle.sot_ordered_board.specs.Order.{FliesInOrder}
 use Rattle.sot_trace.specs.Traces.{trace_text}
 use Rattle.sot_formula.specs.Formulas.{Formula}
 use Rattle.sot_formula.specs.Phrases.{Phrase, IsFormulaText}
@@ -37,10 +37,10 @@ TellsFails t f x history text =
     × (text ≡ trace_text t f.start history ++ fails_text time)
 
 -- a flight that a formula watches: every plant starts in its module's safer region, the formula has
--- a meaning for the program, and this is told of it over a history of the flight
+-- a meaning for the program, and this is told of it over a history of the flight, flown in order
 abbrev pub IsWatchedBy : (Tables → Plan → Formula → List Logged → List ℕ → Type 0) → List ℕ
     → Tables → ℕ → Plan → List ℕ → Type 0
 IsWatchedBy Tells formula t jitter f text =
     StartInside t f.start (length t.modules)
-    × ((x : Formula) × (history : List Logged) × IsFormula t formula x × FlownBy t jitter f history
-    × Tells t f x history text)
+    × ((x : Formula) × (history : List Logged) × IsFormula t formula x
+    × FliesInOrder t jitter f history × Tells t f x history text)

@@ -5,7 +5,6 @@ ghost use Rattle.std.specs.Prelude.{◌≡◌, ◌<◌, ◌≤◌, ◌^◌, [], 
 ghost use Rattle.sot_lang.specs.CertRules.{FitsTables};
 ghost use Rattle.sot_world.specs.Opens.{StartInside};
 ghost use Rattle.sot_flight.specs.Fits.{FitsFlight};
-ghost use Rattle.sot_workers.specs.Flying.{HasNoGuests};
 ghost use Rattle.sot_workers.specs.Asked.{EachUnnamedStays};
 ghost use Rattle.sot_cli.specs.Texts.{input_limit};
 ghost use Rattle.sot_commands.specs.Steps.{JudgesFlight, JudgesFlown, JudgesWatched};
@@ -30,7 +29,7 @@ use sot_report::{LoadFail, load};
 use sot_sections::Need;
 use sot_text_output::Out;
 use sot_tube::Accepted;
-use sot_workers::{fly as fly_to_the_end, fly_alone, has_workers};
+use sot_workers::fly as fly_to_the_end;
 use sot_world::OpenFail;
 use std::alloc::{AllocError, Global};
 use std::sync::Wait;
@@ -56,46 +55,14 @@ fn tell<O: Out>(
     }
 }
 
-// Flies a board without guests, and tells what was flown. Only what is told takes memory.
-fn fly_unaided<O: Out>(
-    alloc: Global,
-    out: &mut O,
-    accepted: &Accepted<'_>,
-    board: &mut Board<'_>,
-    flight: &Flight,
-    telling: Telling<'_>,
-    monitor: Option<Monitor>,
-) -> Result<Answer, AllocError>
-    requires accepted { board.old.accepted ≡ accepted.now }
-    requires monitor { IsMonitorFor telling accepted.now.program monitor }
-    requires flight { flight.now ≡ board.old.plan }
-    requires inside { StartInside board.old.accepted.program flight.now.start
-        (length board.old.accepted.program.modules) }
-    requires no_guests { HasNoGuests flight.now }
-    ensures { SaysInAll O.puts out.old out.new result (JudgesFlight telling.entry
-        board.old.accepted.program board.old.accepted.cert.jitter flight.now) }
-{
-    fly_alone(board);
-    tell(alloc, out, accepted, board, telling, monitor)
-}
-
-// Whether a board is to be flown alone: there are no guests, and nobody gets a thread.
-fn is_alone(board: &Board<'_>, no_guests: bool) -> bool
-    ensures { result ≡ true → no_guests ≡ true }
-{
-    board.reveal_invariant();
-    no_guests && !has_workers(board.typed(), board.flight())
-}
-
-// Flies a newly opened board with its guests, and tells what was flown. Where nobody gets a thread,
-// it takes no lists of drafts.
+// Flies a newly opened board with its guests, and tells what was flown.
 fn fly_opened<'a, O: Out, C: Controller + Send, R: Threads + Wait + Sync>(
     rt: &R,
     alloc: Global,
     out: &mut O,
     guests: &mut Vec<C>,
     accepted: &Accepted<'_>,
-    mut board: Board<'a>,
+    board: Board<'a>,
     flight: &'a Flight,
     telling: Telling<'_>,
     monitor: Option<Monitor>,
@@ -117,9 +84,6 @@ fn fly_opened<'a, O: Out, C: Controller + Send, R: Threads + Wait + Sync>(
     ensures guests { GuestsStand C.asked
         (EachUnnamedStays flight.now guests.old.items guests.new.items) guests.old guests.new }
 {
-    if is_alone(&board, guests.is_empty()) {
-        return fly_unaided(alloc, out, accepted, &mut board, flight, telling, monitor);
-    }
     match fly_to_the_end(rt, alloc, board, guests) {
         Ok(flown) => tell(alloc, out, accepted, &flown.board, telling, monitor),
         Err(_) => Err(AllocError),

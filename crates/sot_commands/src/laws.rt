@@ -6,7 +6,7 @@ ghost use Rattle.sot_commands.specs.GuestLaws.{TracesEndOnce, FlewOnce, NamedAre
 
 use sot_fly_worker::Controller;
 
-/// What is accepted is told with one text, but for the commands that fly.
+/// What is accepted is told with one text, but by `watch`, and by `fly` where guests are handed in.
 pub fn accepted_once()
     ensures { AcceptedOnce }
 {}

@@ -14,33 +14,33 @@ ghost use Rattle.sot_board.specs.Standing.{Standing};
 ghost use Rattle.sot_board.specs.Views.{viewed_node};
 ghost use Rattle.sot_board.specs.Commits.{IsTakenFrom, IsRunOn};
 ghost use Rattle.sot_world.specs.NodeSorts.{IsCodedNode, IsExternalNode};
+ghost use Rattle.sot_ordered_board.specs.Turns.{FiresNext};
 ghost use Rattle.sot_fly_worker.specs.Holds.{HasNode, IsDueView, IsSeen, Appends, HasFired};
 
 use crate::bells::Bells;
 use crate::order::{Follower, ring_for, who_follows};
 use crate::take::{append, stop, take_in_step, take_next};
-use sot_board::{Board, Commit, Receipt, View};
+use sot_board::{Commit, Receipt, View};
 use sot_code::{Fired, run_node};
 use sot_eval_flat::Flat;
 use sot_lang::{Draft, Typed};
+use sot_ordered_board::OrderedBoard;
 use sot_turn::{Held, Pass, Turn};
 use std::sync::Wait;
 
 /// A node whose draft the flight states fires with it.
 pub(crate) fn fire_stated<'a, R: Wait>(
     rt: &R,
-    turn: &Turn<Board<'a>>,
+    turn: &Turn<OrderedBoard<'a>>,
     bells: &Bells,
-    pass: Pass<Board<'a>>,
+    pass: Pass<OrderedBoard<'a>>,
     node: u32,
     drafts: &mut Vec<Draft>,
-) -> Pass<Board<'a>>
+) -> Pass<OrderedBoard<'a>>
     requires lock { pass_lock pass ≡ lock_of turn.now }
     requires there { HasNode (pass_ground pass) node }
     requires external { (a : _) (f : _) → pass_ground pass ≡ Some (a, f)
         → IsExternalNode a.program node }
-    requires no_guest { (a : _) (f : _) → pass_ground pass ≡ Some (a, f)
-        → (i : ℕ) → At f.crews node (plans.Guest i) → ⊥ }
     requires drafts { drafts.old.items ≡ drafts_of node (pass_seen pass) }
     ensures lock { pass_lock result ≡ pass_lock pass.entry }
     ensures ground { pass_ground result ≡ pass_ground pass.entry }
@@ -50,7 +50,7 @@ pub(crate) fn fire_stated<'a, R: Wait>(
     ensures drafts { drafts.new.items ≡ drafts_of node (pass_seen result) }
 {
     let mut held = take_next(rt, turn, bells, pass, node, drafts);
-    let (receipt, follower) = commit_stated(rt, held.lend(), bells, node);
+    let (receipt, follower) = commit_stated(held.lend(), bells, node);
     append(rt, drafts, receipt.draft);
     let pass = turn.give(held);
     ring_for(bells, follower);
@@ -58,20 +58,11 @@ pub(crate) fn fire_stated<'a, R: Wait>(
 }
 
 // Commits it, and says who goes on.
-fn commit_stated<R: Wait>(
-    rt: &R,
-    board: &mut Board<'_>,
-    bells: &Bells,
-    node: u32,
-) -> (Receipt, Follower)
-    requires there { node < length board.old.accepted.program.nodes }
+fn commit_stated(board: &mut OrderedBoard<'_>, bells: &Bells, node: u32) -> (Receipt, Follower)
+    requires next { FiresNext board.old node }
     requires external { IsExternalNode board.old.accepted.program node }
-    requires no_guest { (i : ℕ) → At board.old.plan.crews node (plans.Guest i) → ⊥ }
     ensures { Appends board.old board.new node result.0.draft }
 {
-    if !board.left(node) {
-        stop(rt);
-    }
     let receipt = board.commit_stated(node);
     (receipt, who_follows(board, bells))
 }
@@ -80,14 +71,14 @@ fn commit_stated<R: Wait>(
 /// reads has changed since.
 pub(crate) fn fire_code<'a, R: Wait>(
     rt: &R,
-    turn: &Turn<Board<'a>>,
+    turn: &Turn<OrderedBoard<'a>>,
     bells: &Bells,
-    pass: Pass<Board<'a>>,
+    pass: Pass<OrderedBoard<'a>>,
     p: &Typed,
     view: View,
     form: &Option<Flat>,
     drafts: &mut Vec<Draft>,
-) -> Pass<Board<'a>>
+) -> Pass<OrderedBoard<'a>>
     requires lock { pass_lock pass ≡ lock_of turn.now }
     requires there { HasNode (pass_ground pass) (viewed_node view) }
     requires coded { IsCodedNode p.now (viewed_node view) }
@@ -104,7 +95,7 @@ pub(crate) fn fire_code<'a, R: Wait>(
 {
     let fired = run(p, &view, form);
     let mut held = take_next(rt, turn, bells, pass, view.node(), drafts);
-    let (receipt, follower) = commit_run(rt, held.lend(), bells, view, &fired);
+    let (receipt, follower) = commit_run(held.lend(), bells, view, &fired);
     append(rt, drafts, receipt.draft);
     let pass = turn.give(held);
     ring_for(bells, follower);
@@ -154,28 +145,24 @@ fn run_tree(p: &Typed, view: &View) -> Fired
 }
 
 // Commits it, or fires anew where the view is an older one, and says who goes on.
-fn commit_run<R: Wait>(
-    rt: &R,
-    board: &mut Board<'_>,
+fn commit_run(
+    board: &mut OrderedBoard<'_>,
     bells: &Bells,
     view: View,
     fired: &Fired,
 ) -> (Receipt, Follower)
-    requires there { viewed_node view < length board.old.accepted.program.nodes }
+    requires next { FiresNext board.old (viewed_node view) }
     requires coded { IsCodedNode board.old.accepted.program (viewed_node view) }
     requires taken { IsTakenFrom board.old view }
     requires ran { IsRunOn board.old.accepted.program view fired.now }
     ensures { Appends board.old board.new (viewed_node view) result.0.draft }
 {
-    if !board.left(view.node()) {
-        stop(rt);
-    }
     let receipt = commit_or_fire(board, view, fired);
     (receipt, who_follows(board, bells))
 }
 
-fn commit_or_fire(board: &mut Board<'_>, view: View, fired: &Fired) -> Receipt
-    requires left { is_left board.old.position.at (viewed_node view) ≡ true }
+fn commit_or_fire(board: &mut OrderedBoard<'_>, view: View, fired: &Fired) -> Receipt
+    requires next { FiresNext board.old (viewed_node view) }
     requires coded { IsCodedNode board.old.accepted.program (viewed_node view) }
     requires taken { IsTakenFrom board.old view }
     requires ran { IsRunOn board.old.accepted.program view fired.now }
@@ -190,12 +177,12 @@ fn commit_or_fire(board: &mut Board<'_>, view: View, fired: &Fired) -> Receipt
 /// A node that a guest flies fires with the guest's draft.
 pub(crate) fn fire_guest<'a, R: Wait>(
     rt: &R,
-    turn: &Turn<Board<'a>>,
-    pass: Pass<Board<'a>>,
+    turn: &Turn<OrderedBoard<'a>>,
+    pass: Pass<OrderedBoard<'a>>,
     node: u32,
     draft: Draft,
     drafts: &mut Vec<Draft>,
-) -> Pass<Board<'a>>
+) -> Pass<OrderedBoard<'a>>
     requires lock { pass_lock pass ≡ lock_of turn.now }
     requires there { HasNode (pass_ground pass) node }
     requires guest { (a : _) (f : _) → pass_ground pass ≡ Some (a, f)
@@ -214,7 +201,7 @@ pub(crate) fn fire_guest<'a, R: Wait>(
     turn.give(held)
 }
 
-fn commit_draft<R: Wait>(rt: &R, board: &mut Board<'_>, node: u32, draft: Draft) -> Receipt
+fn commit_draft<R: Wait>(rt: &R, board: &mut OrderedBoard<'_>, node: u32, draft: Draft) -> Receipt
     requires there { node < length board.old.accepted.program.nodes }
     requires guest { (i : ℕ) × At board.old.plan.crews node (plans.Guest i) }
     ensures appends { Appends board.old board.new node result.draft }

@@ -20,7 +20,6 @@ mod turns;
 pub use bells::Bells;
 pub use controller::Controller;
 pub use laws::{answers_stay, fits_stay, whole_histories_end};
-pub use order::next_to_fire;
 pub use promise::Works;
 pub use shift::Shift;
 pub use take::stop;

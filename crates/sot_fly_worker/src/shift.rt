@@ -3,9 +3,9 @@
 ghost use Rattle.std.specs.Prelude.{◌≡◌, false};
 
 use crate::controller::Controller;
-use sot_board::Board;
 use sot_eval_flat::Flat;
 use sot_lang::Draft;
+use sot_ordered_board::OrderedBoard;
 use sot_turn::Pass;
 
 /// A worker's job: its node, whether the flight is at its end, the pass by which it takes turns,
@@ -16,7 +16,7 @@ use sot_turn::Pass;
 pub struct Shift<'a, C: Controller> {
     pub node: u32,
     pub finished: bool,
-    pub pass: Pass<Board<'a>>,
+    pub pass: Pass<OrderedBoard<'a>>,
     pub drafts: Vec<Draft>,
     pub guest: Option<C>,
     pub form: Option<Flat>,
@@ -26,7 +26,7 @@ impl<'a, C: Controller> Shift<'a, C> {
     /// One that is not at the end of the flight.
     pub(crate) fn unfinished(
         node: u32,
-        pass: Pass<Board<'a>>,
+        pass: Pass<OrderedBoard<'a>>,
         drafts: Vec<Draft>,
         guest: Option<C>,
         form: Option<Flat>,

@@ -7,8 +7,9 @@ ghost use Rattle.sot_board.specs.Standing.{IsStanding};
 ghost use Rattle.sot_world.specs.NodeSorts.{IsCodedNode, IsExternalNode};
 ghost use Rattle.sot_fly_worker.specs.Holds.{IsDueView, MatchSight};
 
-use sot_board::{Board, View};
+use sot_board::View;
 use sot_lang::Typed;
+use sot_ordered_board::OrderedBoard;
 use sot_world::is_coded;
 
 /// The flight is at its end; the node is not due; it is due and its draft is stated; its code is to
@@ -23,7 +24,7 @@ pub enum Sight<'a> {
 }
 
 /// What there is to do for a node, which a guest flies or not.
-pub(crate) fn see<'a>(board: &Board<'a>, node: u32, guest: bool) -> Sight<'a>
+pub(crate) fn see<'a>(board: &OrderedBoard<'a>, node: u32, guest: bool) -> Sight<'a>
     requires { node < length board.now.accepted.program.nodes }
     ensures standing { IsStanding board.now }
     ensures sight { MatchSight result

@@ -5,12 +5,13 @@ ghost use Rattle.sot_turn.specs.Prefixes.{IsPrefix};
 ghost use Rattle.sot_turn.specs.Passes.{lock_of, pass_lock, pass_ground, pass_seen, pass_added};
 ghost use Rattle.sot_turn.specs.Passes.{held_lock, held_ground, held_seen, held_added, held_value};
 ghost use Rattle.sot_board.specs.Versions.{drafts_of};
+ghost use Rattle.sot_ordered_board.specs.Turns.{FiresNext};
 ghost use Rattle.sot_fly_worker.specs.Holds.{HasNode};
 
 use crate::bells::Bells;
 use crate::order::is_next;
-use sot_board::Board;
 use sot_lang::Draft;
+use sot_ordered_board::OrderedBoard;
 use sot_turn::{Held, Pass, Turn};
 use std::sync::Wait;
 use std::thread;
@@ -29,11 +30,11 @@ pub fn stop<R: Wait>(rt: &R)
 /// back and waits without end.
 pub(crate) fn take_in_step<'t, 'a, R: Wait>(
     rt: &R,
-    turn: &'t Turn<Board<'a>>,
-    pass: Pass<Board<'a>>,
+    turn: &'t Turn<OrderedBoard<'a>>,
+    pass: Pass<OrderedBoard<'a>>,
     node: u32,
     drafts: &Vec<Draft>,
-) -> Held<'t, Board<'a>>
+) -> Held<'t, OrderedBoard<'a>>
     requires lock { pass_lock pass ≡ lock_of turn.now }
     requires there { HasNode (pass_ground pass) node }
     requires drafts { drafts.now.items ≡ drafts_of node (pass_seen pass) }
@@ -61,12 +62,12 @@ pub(crate) fn take_in_step<'t, 'a, R: Wait>(
 /// it gives the turn back and parks.
 pub(crate) fn take_next<'t, 'a, R: Wait>(
     rt: &R,
-    turn: &'t Turn<Board<'a>>,
+    turn: &'t Turn<OrderedBoard<'a>>,
     bells: &Bells,
-    pass: Pass<Board<'a>>,
+    pass: Pass<OrderedBoard<'a>>,
     node: u32,
     drafts: &Vec<Draft>,
-) -> Held<'t, Board<'a>>
+) -> Held<'t, OrderedBoard<'a>>
     requires lock { pass_lock pass ≡ lock_of turn.now }
     requires there { HasNode (pass_ground pass) node }
     requires drafts { drafts.now.items ≡ drafts_of node (pass_seen pass) }
@@ -78,6 +79,7 @@ pub(crate) fn take_next<'t, 'a, R: Wait>(
     ensures goes_on { IsPrefix (pass_seen pass.entry) (held_value result).entries }
     ensures added { held_added result ≡ pass_added pass.entry }
     ensures in_step { drafts_of node (held_value result).entries ≡ drafts.now.items }
+    ensures next { FiresNext (held_value result) node }
 {
     let mut pass = pass;
     for _ in rt.forever() {

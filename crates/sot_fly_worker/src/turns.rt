@@ -15,8 +15,9 @@ use crate::hold::{fire_code, fire_guest, fire_stated};
 use crate::shift::Shift;
 use crate::sight::{Sight, see};
 use crate::take::take_in_step;
-use sot_board::{Board, View};
+use sot_board::View;
 use sot_lang::Draft;
+use sot_ordered_board::OrderedBoard;
 use sot_turn::Turn;
 use std::sync::Wait;
 
@@ -37,7 +38,7 @@ fn ask<C: Controller>(guest: &mut C, view: &View) -> Draft
 /// as often as the shift has drafts, and elsewhere gives the turn back and waits without end.
 pub fn take_turn<'a, C: Controller, R: Wait>(
     rt: &R,
-    turn: &Turn<Board<'a>>,
+    turn: &Turn<OrderedBoard<'a>>,
     bells: &Bells,
     shift: Shift<'a, C>,
 ) -> Shift<'a, C>
@@ -96,7 +97,7 @@ pub fn take_turn<'a, C: Controller, R: Wait>(
 /// its node has become due, and once the board is finished; of this no clause speaks.
 pub fn work<'a, C: Controller, R: Wait>(
     rt: &R,
-    turn: &Turn<Board<'a>>,
+    turn: &Turn<OrderedBoard<'a>>,
     bells: &Bells,
     shift: Shift<'a, C>,
 ) -> Shift<'a, C>

@@ -1,5 +1,10 @@
 //! The program, over real words, source and sink.
 
+ghost use Rattle.std.specs.Process.{exit_status};
+ghost use Rattle.sot_ports.specs.Outside.{Outside};
+ghost use Rattle.sot_cli.specs.Words.{EndsAsCalled};
+ghost use Rattle.sot_guard_program.specs.Ends.{Ends};
+
 use crate::top::guard;
 use sot_cli::run_program;
 use sot_ports::Process;
@@ -18,7 +23,10 @@ pub fn run<R: Threads + Sync>(
     args: io::Result<Args>,
     input: Stdin,
     output: Stdout,
-) -> ExitCode {
+) -> ExitCode
+    ensures ends { EndsAsCalled (λ words status. (before : Outside) × (after : Outside)
+        × Ends words before after status) args (exit_status result) }
+{
     run_program(alloc, args, input, output, |words, source, sink| {
         guard(rt, alloc, words, source, sink, Process::Ends)
     })

@@ -8,13 +8,14 @@ use Rattle.sot_calendar.specs.Due.{IsDue}
 use Rattle.sot_world.specs.declared.mode.Mode.TheVariants.{Sc}
 use Rattle.sot_world.specs.Configurations.{Configuration, is_left, point_of, IsOpening}
 use Rattle.sot_world.specs.Steps.{Event, Input, Code, Guest, Decide, Tick}
-use Rattle.sot_world.specs.HistoryEntry.{Logged}
+use Rattle.sot_world.specs.HistoryEntry.{Logged, InputAt, FireAt, DecideAt, TickAt}
 use Rattle.sot_flight.specs.Plans.{Plan}
 use Rattle.sot_board.specs.Flown.{Position, fired_of, IsStatedDraft, IsStated, Flies, Leads, IsStart, IsEnd}
+use Rattle.sot_ordered_board.specs.Order.{HaveDecided, HasTurn, IsNext, LeadsInOrder}
 use Rattle.sot_typing.specs.Resolved.{PlantTable, NodeTable, node_seen, tables_seen}
 use Rattle.sot_law_equal_tables.proofs.Seen.{scalars_same, modules_same, plants_seen_same, nodes_seen_same, module_back, plant_back, node_back}
-use Rattle.sot_law_equal_flights.specs.Laws.{HistoriesAlikeSoFar, HistoriesAlike}
-use Rattle.sot_law_equal_flights.proofs.Parts.{sized_same}
+use Rattle.sot_law_equal_flights.specs.Laws.{HistoriesAlikeSoFar, HistoriesAlike, OrdersAlike}
+use Rattle.sot_law_equal_flights.proofs.Parts.{node_count, sized_same}
 use Rattle.sot_law_equal_flights.proofs.Stated.{noises_same, draft_same}
 use Rattle.sot_law_equal_flights.proofs.Steps.{node_there, step_same, records_same}
 
@@ -88,8 +89,30 @@ module _ (t u : Tables) (same : tables_seen t ≡ tables_seen u) where
     leads_same P [] Q leads = leads
     leads_same P (entry ∷ entries) Q (R, flies, leads) = (R, flies_same P entry R flies, leads_same R entries Q leads)
 
+    turn_same : (P : Position) (n : ℕ) → HasTurn t f P n → HasTurn u f P n
+    turn_same P n turn = record {
+      inputs = turn.inputs;
+      decided = subst (HaveDecided P) (ap length (modules_same t u same)) turn.decided;
+      fired = turn.fired;
+    }
+
+    next_same : (P : Position) (entry : Logged) → IsNext t f P entry → IsNext u f P entry
+    next_same P (InputAt time topic value) next = next
+    next_same P (DecideAt time m mode) next = next
+    next_same P (FireAt time n draft enabled) next = λ own. turn_same P n (next own)
+    next_same P (TickAt time noise states) next = subst (HasTurn u f P) (node_count t u same) (turn_same P (length t.nodes) next)
+
+    ordered_same : (P : Position) (entries : List Logged) (Q : Position) → LeadsInOrder t jitter f P entries Q → LeadsInOrder u jitter f P entries Q
+    ordered_same P [] Q leads = leads
+    ordered_same P (entry ∷ entries) Q (next, (R, flies, leads)) =
+        (next_same P entry next, (R, flies_same P entry R flies, ordered_same R entries Q leads))
+
 pub so_far : HistoriesAlikeSoFar
 so_far t u jitter f entries Q same (P, start, leads) = (P, start_same t u same f P start, leads_same t u same jitter f P entries Q leads)
 
 pub whole : HistoriesAlike
 whole t u jitter f entries same (Q, flown, end) = (Q, so_far t u jitter f entries Q same flown, end_same t u same f Q end)
+
+pub ordered : OrdersAlike
+ordered t u jitter f entries same (Q, (P, start, leads), end) =
+    (Q, (P, start_same t u same f P start, ordered_same t u same jitter f P entries Q leads), end_same t u same f Q end)

@@ -5,6 +5,7 @@ use Rattle.sot_typing.specs.Resolved.{tables_seen}
 use Rattle.sot_world.specs.HistoryEntry.{Logged}
 use Rattle.sot_flight.specs.Plans.{Plan}
 use Rattle.sot_board.specs.Flown.{Position, FlownSoFar, FlownBy}
+use Rattle.sot_ordered_board.specs.Order.{FliesInOrder}
 
 -- a history of a flight so far is one of the same flight of tables that look the same, and comes to
 -- the same position
@@ -19,3 +20,9 @@ abbrev pub HistoriesAlike : Type 0
 HistoriesAlike =
     (t u : Tables) (jitter : ℕ) (f : Plan) (entries : List Logged) → tables_seen t ≡ tables_seen u
     → FlownBy t jitter f entries → FlownBy u jitter f entries
+
+-- and a history of it in order is one in order by either of the tables
+abbrev pub OrdersAlike : Type 0
+OrdersAlike =
+    (t u : Tables) (jitter : ℕ) (f : Plan) (entries : List Logged) → tables_seen t ≡ tables_seen u
+    → FliesInOrder t jitter f entries → FliesInOrder u jitter f entries

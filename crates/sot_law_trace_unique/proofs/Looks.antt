@@ -114,7 +114,7 @@ module _ (t u : Tables) (same : tables_seen t ≡ tables_seen u) where
       ∙ (λ i. draft_text (bare (topics_same i) (scalars_same i)) (writes_same n i) d)
       ∙ sym (draft_bare u (writes_of u n) d)
 
-  refused_same : (e : Logged) → refused_in t e ≡ refused_in u e
+  pub refused_same : (e : Logged) → refused_in t e ≡ refused_in u e
   refused_same (InputAt time topic value) = refl
   refused_same (FireAt time n d enabled) =
       refused_bare t (writes_of t n) d

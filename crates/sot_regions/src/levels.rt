@@ -5,7 +5,6 @@
 //! back from everywhere where the levels have all of the safe region.
 
 ghost use Rattle.std.specs.Prelude.{◌≡◌, ◌≤◌, length, IfOk, IfSome, OnOk};
-ghost use Rattle.sot_invariant_atoms.specs.Asking.{asked_width};
 ghost use Rattle.sot_regions.specs.Searches.{IsSearch};
 
 use crate::cells::MOST_CELLS;

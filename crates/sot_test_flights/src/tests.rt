@@ -9,7 +9,7 @@ ghost use Rattle.std.specs.Prelude.{IfSome};
 ghost use Rattle.sot_lang.specs.CertRules.{FitsTables};
 ghost use Rattle.sot_flight.specs.Fits.{FitsFlight};
 ghost use Rattle.sot_trace.specs.Words.{AreWords};
-ghost use Rattle.sot_workers.specs.Flying.{HasNoGuests};
+ghost use Rattle.sot_ordered_board.specs.Crews.{HasNoGuests};
 
 use sot_flight::Flight;
 use sot_lang::Typed;

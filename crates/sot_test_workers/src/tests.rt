@@ -3,7 +3,7 @@
 ghost use Rattle.std.specs.Prelude.{◌≡◌, ◌<◌, ◌^◌, vec_len, IfSome};
 ghost use Rattle.sot_lang.specs.CertRules.{FitsTables};
 ghost use Rattle.sot_flight.specs.Fits.{FitsFlight};
-ghost use Rattle.sot_workers.specs.Flying.{HasNoGuests};
+ghost use Rattle.sot_ordered_board.specs.Crews.{HasNoGuests};
 
 mod crowd;
 mod held;
@@ -19,6 +19,7 @@ use sot_compose::check_all;
 use sot_flight::Flight;
 use sot_fly_worker::Controller;
 use sot_lang::Typed;
+use sot_ordered_board::OrderedBoard;
 use sot_ports::Process;
 use sot_report::{Loaded, load};
 use sot_sections::Need;
@@ -112,11 +113,12 @@ fn alone(rt: &(impl Abort + Threads + Sync), alloc: Global, text: &str) -> Strin
     let Ok(accepted) = check_all(rt, &loaded.program, &loaded.cert) else {
         panic!(rt; "the mission is refused");
     };
-    let Ok(mut board) = Board::open(alloc, &accepted, flight) else {
+    let Ok(board) = Board::open(alloc, &accepted, flight) else {
         panic!(rt; "the flight does not start");
     };
-    fly_alone(&mut board);
-    board_text(alloc, &board).expect(rt, "memory")
+    let mut ordered = OrderedBoard::new(board);
+    fly_alone(&mut ordered);
+    board_text(alloc, &ordered.into_board()).expect(rt, "memory")
 }
 
 // The trace of a mission's flight, which has no guests, by workers in threads.

@@ -29,7 +29,8 @@ use Rattle.sot_world.specs.contracts.history.History as History
 use Rattle.sot_flight.specs.contracts.flight.Flight as Flight
 use Rattle.sot_board.specs.contracts.board.Board as Board
 use Rattle.sot_board.specs.contracts.journal.HistoryEntry as Entry
-use Rattle.sot_board.specs.contracts.journal.BoardJournal.TheImpl.{ghosts}
+use Rattle.sot_ordered_board.specs.contracts.ordered.OrderedBoard as Ordered
+use Rattle.sot_ordered_board.specs.contracts.journal.OrderedBoardJournal.TheImpl.{ghosts}
 use Rattle.sot_turn.specs.contracts.turn.Pass as Pass
 use Rattle.sot_turn.specs.contracts.turn.Turn as Turn
 use Rattle.sot_fly_worker.specs.contracts.shift.Shift as Shift
@@ -69,9 +70,13 @@ flight_sync = search (sendable, crosses) depth 40
 pub board_send : (a : NamedLft) → IsSend (Board.the_row a)
 board_send a = search (sendable, crosses, world_send, history_send, flight_sync) depth 40
 
+-- .. and one that is flown in order
+pub ordered_send : (a : NamedLft) → IsSend (Ordered.the_row a)
+ordered_send a = search (sendable, crosses, board_send) depth 40
+
 -- a pass
-pass_send : (a : NamedLft) → IsSend (Pass.the_field (Board.the_row a) (Tuple (Accepted.the_row a ∷ Flight.the_row ∷ [])) (Entry.the_row a) ghosts).row
-pass_send a = pass.the_field_send (Board.the_row a) (Tuple (Accepted.the_row a ∷ Flight.the_row ∷ [])) (Entry.the_row a) ghosts (board_send a)
+pass_send : (a : NamedLft) → IsSend (Pass.the_field (Ordered.the_row a) (Tuple (Accepted.the_row a ∷ Flight.the_row ∷ [])) (Entry.the_row a) ghosts).row
+pass_send a = pass.the_field_send (Ordered.the_row a) (Tuple (Accepted.the_row a ∷ Flight.the_row ∷ [])) (Entry.the_row a) ghosts (ordered_send a)
 
 -- a shift, whose guest may
 pub shift_send : (a : NamedLft) (C : RattleType) → IsSend C → IsSend (Shift.the_row a C)
@@ -95,8 +100,8 @@ shift_send a C s =
     ))
 
 -- a lock over a board
-pub turn_sync : (a : NamedLft) → IsSync (Turn.the_row (Board.the_row a) (Tuple (Accepted.the_row a ∷ Flight.the_row ∷ [])) (Entry.the_row a) ghosts)
-turn_sync a = turn.the_sync (Board.the_row a) (Tuple (Accepted.the_row a ∷ Flight.the_row ∷ [])) (Entry.the_row a) ghosts (board_send a)
+pub turn_sync : (a : NamedLft) → IsSync (Turn.the_row (Ordered.the_row a) (Tuple (Accepted.the_row a ∷ Flight.the_row ∷ [])) (Entry.the_row a) ghosts)
+turn_sync a = turn.the_sync (Ordered.the_row a) (Tuple (Accepted.the_row a ∷ Flight.the_row ∷ [])) (Entry.the_row a) ghosts (ordered_send a)
 
 -- what a closure has captured
 pub closure_send : (name : Sym) (A B D E : RattleType) → IsSend A → IsSend B → IsSend D → IsSend E → IsSend (TupleAt name (A ∷ B ∷ D ∷ E ∷ []))

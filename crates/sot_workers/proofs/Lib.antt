@@ -10,7 +10,7 @@ pub mod Placing
 pub mod Putting
 pub mod Stations
 pub mod OwnTurns
-pub mod Ordered
+pub mod Turns
 pub mod Going
 pub mod Landing
 pub mod Weights

@@ -20,7 +20,7 @@ use Rattle.sot_fly_worker.specs.Shifts.{HasItsGuest, IsOnShift}
 use Rattle.sot_workers.specs.declared.lists.NodeList.{NodeList}
 use Rattle.sot_workers.specs.declared.place.Station.{Station}
 use Rattle.sot_workers.specs.declared.place.Station.TheVariants.{Guest, Caller, Thread}
-use Rattle.sot_workers.specs.Flying.{IsOwn}
+use Rattle.sot_ordered_board.specs.Crews.{IsOwn}
 use Rattle.sot_workers.specs.Lists.{HasNodes, AreOwnLists, AreMine}
 use Rattle.sot_workers.specs.Back.{lists_after}
 use Rattle.sot_workers.specs.Sent.{HasSeenWhole}

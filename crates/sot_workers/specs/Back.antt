@@ -7,7 +7,7 @@ use Rattle.sot_flight.specs.Plans.{Plan, Guest}
 use Rattle.sot_board.specs.Versions.{drafts_of}
 use Rattle.sot_fly_worker.specs.Askings.{Asking}
 use Rattle.sot_workers.specs.declared.lists.NodeList.{NodeList}
-use Rattle.sot_workers.specs.Flying.{IsOwn}
+use Rattle.sot_ordered_board.specs.Crews.{IsOwn}
 use Rattle.sot_workers.specs.Lists.{HasNodes}
 use Rattle.sot_workers.specs.Sent.{IsBack}
 

@@ -1,15 +1,8 @@
--- Flights that are flown without guests.
+-- Which nodes of a flight the caller fires, and which guests the flight does not name.
 use Rattle.std.specs.Prelude.{ℕ, ◌≡◌, Bool, false, List, slice_index_or}
 use Rattle.sot_lists.specs.Places.{At}
 use Rattle.sot_flight.specs.Plans.{Plan, Guest}
-
--- no node of the flight is flown by a guest
-abbrev pub HasNoGuests : Plan → Type 0
-HasNoGuests f = (n i : ℕ) → At f.crews n (Guest i) → ⊥
-
--- no guest flies the node
-abbrev pub IsOwn : Plan → ℕ → Type 0
-IsOwn f n = (i : ℕ) → At f.crews n (Guest i) → ⊥
+use Rattle.sot_ordered_board.specs.Crews.{IsOwn}
 
 -- no guest flies the node, and its worker has no thread, so the caller fires it
 abbrev pub IsMine : Plan → List Bool → ℕ → Type 0

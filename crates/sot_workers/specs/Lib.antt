@@ -1,6 +1,5 @@
 -- what the flying of a flight promises
 pub mod Flying
-pub mod Order
 pub mod Lists
 pub mod Asked
 pub mod Pairs

@@ -6,7 +6,8 @@ use Rattle.sot_flight.specs.Plans.{Plan}
 use Rattle.sot_board.specs.Versions.{drafts_of}
 use Rattle.sot_board.specs.Standing.{Standing}
 use Rattle.sot_workers.specs.declared.lists.NodeList.{NodeList}
-use Rattle.sot_workers.specs.Flying.{IsOwn, IsMine}
+use Rattle.sot_ordered_board.specs.Crews.{IsOwn}
+use Rattle.sot_workers.specs.Flying.{IsMine}
 
 -- one list a node, in declared order
 pub record HasNodes (count : ℕ) (lists : List NodeList) : Type 0 where

@@ -10,7 +10,7 @@ use Rattle.sot_board.specs.Versions.{drafts_of}
 use Rattle.sot_fly_worker.specs.declared.shift.Shift.{Shift}
 use Rattle.sot_fly_worker.specs.Shifts.{IsReady}
 use Rattle.sot_workers.specs.declared.lists.NodeList.{NodeList}
-use Rattle.sot_workers.specs.Flying.{IsOwn}
+use Rattle.sot_ordered_board.specs.Crews.{IsOwn}
 use Rattle.sot_workers.specs.declared.place.Station.{Station}
 use Rattle.sot_workers.specs.declared.place.Station.TheVariants.{Guest, Caller, Thread}
 

@@ -9,6 +9,7 @@ ghost use Rattle.sot_flight.specs.Plans.{Plan, Guest};
 ghost use Rattle.sot_turn.specs.Prefixes.{IsPrefix};
 ghost use Rattle.sot_turn.specs.Passes.{lock_of, pass_lock, pass_ground, pass_seen};
 ghost use Rattle.sot_board.specs.Flown.{FlownBy};
+ghost use Rattle.sot_ordered_board.specs.Order.{IsInOrder, FliesInOrder};
 ghost use Rattle.sot_fly_worker.specs.Answers.{Answered};
 ghost use Rattle.sot_workers.specs.Flying.{IsUnnamed};
 ghost use Rattle.sot_workers.specs.Forms.{AreFormsOf};
@@ -32,6 +33,7 @@ use crate::watch::watch;
 use sot_board::Board;
 use sot_flight::Flight;
 use sot_fly_worker::{Bells, Controller, whole_histories_end};
+use sot_ordered_board::OrderedBoard;
 use sot_turn::{Pass, Turn};
 use std::alloc::{AllocError, Global};
 use std::mem::swap;
@@ -51,7 +53,7 @@ pub struct Flown<'a> {
 /// theirs.
 #[derive(Drop)]
 pub(crate) struct Landed<'a, C: Controller> {
-    pub(crate) pass: Pass<Board<'a>>,
+    pub(crate) pass: Pass<OrderedBoard<'a>>,
     pub(crate) lists: Vec<NodeList>,
     pub(crate) dones: Vec<Done<C>>,
 }
@@ -59,7 +61,7 @@ pub(crate) struct Landed<'a, C: Controller> {
 /// What leaves with the guests: the caller's pass, and the memory of the flight.
 #[derive(Drop)]
 pub(crate) struct Leaving<'a, C: Controller> {
-    pub(crate) pass: Pass<Board<'a>>,
+    pub(crate) pass: Pass<OrderedBoard<'a>>,
     pub(crate) room: Room<'a, C>,
 }
 
@@ -69,7 +71,7 @@ fn fly_in<'s, 'a: 's, E, C: Controller + Send + 's, R: Threads + Wait + Sync>(
     rt: &'s R,
     alloc: Global,
     scope: &Scope<'s, E>,
-    turn: &'s Turn<Board<'a>>,
+    turn: &'s Turn<OrderedBoard<'a>>,
     bells: &'s Bells,
     flight: &Flight,
     leaving: Leaving<'a, C>,
@@ -119,7 +121,7 @@ fn fly_in<'s, 'a: 's, E, C: Controller + Send + 's, R: Threads + Wait + Sync>(
 fn fly_out<'a, C: Controller + Send, R: Threads + Wait + Sync>(
     rt: &R,
     alloc: Global,
-    turn: &Turn<Board<'a>>,
+    turn: &Turn<OrderedBoard<'a>>,
     bells: &Bells,
     flight: &Flight,
     leaving: Leaving<'a, C>,
@@ -138,27 +140,32 @@ fn fly_out<'a, C: Controller + Send, R: Threads + Wait + Sync>(
 }
 
 // The board at the end of its flight, of which a whole history was seen.
-fn close<'a, R: Wait>(rt: &R, turn: Turn<Board<'a>>, pass: Pass<Board<'a>>) -> Board<'a>
+fn close<'a, R: Wait>(
+    rt: &R,
+    turn: Turn<OrderedBoard<'a>>,
+    pass: Pass<OrderedBoard<'a>>,
+) -> Board<'a>
     requires lock { pass_lock pass ≡ lock_of turn }
     ensures ground { pass_ground pass.entry ≡ Some (result.accepted, result.plan) }
+    ensures order { IsInOrder result }
     ensures whole { (a : Admitted) (f : Plan) (whole : List Logged)
         → pass_ground pass.entry ≡ Some (a, f) → HasSeenWhole a f whole (pass_seen pass.entry)
         → result.entries ≡ whole }
 {
     whole_histories_end();
-    let board = turn.close(rt, pass);
-    board.reveal_invariant();
-    board
+    let ordered = turn.close(rt, pass);
+    ordered.reveal_invariant();
+    ordered.into_board()
 }
 
 // Flies behind the lock, and puts the lists and the guests back.
 fn fly_behind<'a, C: Controller + Send, R: Threads + Wait + Sync>(
     rt: &R,
     alloc: Global,
-    turn: Turn<Board<'a>>,
+    turn: Turn<OrderedBoard<'a>>,
     bells: &Bells,
     flight: &Flight,
-    pass: Pass<Board<'a>>,
+    pass: Pass<OrderedBoard<'a>>,
     room: Room<'a, C>,
     guests: &mut Vec<C>,
 ) -> Flown<'a>
@@ -172,6 +179,8 @@ fn fly_behind<'a, C: Controller + Send, R: Threads + Wait + Sync>(
     requires back { (guests.old.items ≡ []) × (vec_len room.guests ≤ vec_capacity guests.old) }
     ensures ground { pass_ground pass.entry ≡ Some (result.board.accepted, result.board.plan) }
     ensures flown { FlownBy result.board.accepted.program result.board.accepted.cert.jitter
+        result.board.plan result.board.entries }
+    ensures order { FliesInOrder result.board.accepted.program result.board.accepted.cert.jitter
         result.board.plan result.board.entries }
     ensures guests { EachFrom (IsGuestBack C.asked result.board.accepted result.board.plan
         result.board.entries) 0 room.entry.guests.items guests.new.items }
@@ -209,6 +218,8 @@ pub fn fly<'a, C: Controller + Send, R: Threads + Wait + Sync>(
     requires there { (n i : ℕ) → At board.plan.crews n (Guest i) → i < vec_len guests.old }
     ensures flown { IfOk result (λ r. FlownBy r.board.accepted.program r.board.accepted.cert.jitter
         r.board.plan r.board.entries) }
+    ensures order { IfOk result (λ r. FliesInOrder r.board.accepted.program
+        r.board.accepted.cert.jitter r.board.plan r.board.entries) }
     ensures accepted { IfOk result (λ r. r.board.accepted ≡ board.entry.accepted) }
     ensures plan { IfOk result (λ r. r.board.plan ≡ board.entry.plan) }
     ensures lists { IfOk result (λ r. AreLists (length r.board.accepted.program.nodes) r.lists.items
@@ -225,7 +236,8 @@ pub fn fly<'a, C: Controller + Send, R: Threads + Wait + Sync>(
     let p = board.typed();
     let mut room = room_for(alloc, p, flight, guests.len())?;
     let bells = Bells::new(alloc, p.nodes.len())?;
-    let (turn, pass) = Turn::new(alloc, board)?;
+    let ordered = OrderedBoard::new(board);
+    let (turn, pass) = Turn::new(alloc, ordered)?;
     swap(guests, &mut room.guests);
     Ok(fly_behind(rt, alloc, turn, &bells, flight, pass, room, guests))
 }

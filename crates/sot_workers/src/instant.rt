@@ -1,21 +1,22 @@
 //! All that is due in an instant.
 
 ghost use Rattle.std.specs.Prelude.{◌≡◌, ◌<◌, length, true, false, slice_set};
+ghost use Rattle.sot_turn.specs.Prefixes.{IsPrefix};
 ghost use Rattle.sot_world.specs.Configurations.{is_left};
 ghost use Rattle.sot_board.specs.Flown.{NoInputDue};
 ghost use Rattle.sot_board.specs.Calls.{IsSettled};
-ghost use Rattle.sot_workers.specs.Flying.{HasNoGuests, IsOwn};
+ghost use Rattle.sot_ordered_board.specs.Crews.{HasNoGuests, IsOwn};
 ghost use Rattle.sot_workers.specs.Instants.{IsSameInstant, AddsNoFiring, AddsFiring, NoneLeft};
-ghost use Rattle.sot_workers.specs.Order.{AreInputs, DecideInOrder, FireInOrder, IsInstant, Adds};
+ghost use Rattle.sot_ordered_board.specs.Order.{HaveDecided, HasTurn};
 
-use sot_board::{Board, Receipt};
+use sot_board::Receipt;
+use sot_ordered_board::OrderedBoard;
 use sot_world::is_coded;
 
 /// The inputs that are due come.
-pub(crate) fn take_inputs(board: &mut Board<'_>)
+pub(crate) fn take_inputs(board: &mut OrderedBoard<'_>)
     ensures same { IsSameInstant board.old board.new }
     ensures entries { AddsNoFiring board.old.entries board.new.entries }
-    ensures come { Adds (AreInputs board.old.position.at.time) board.old.entries board.new.entries }
     ensures none { NoInputDue board.new.position }
 {
     'inputs: while board.due_input() {
@@ -25,14 +26,12 @@ pub(crate) fn take_inputs(board: &mut Board<'_>)
 }
 
 /// The modules that are left to decide do so, in declared order.
-pub(crate) fn decide_all(board: &mut Board<'_>)
+pub(crate) fn decide_all(board: &mut OrderedBoard<'_>)
+    requires inputs { NoInputDue board.old.position }
     ensures same { IsSameInstant board.old board.new }
     ensures entries { AddsNoFiring board.old.entries board.new.entries }
     ensures inputs { board.new.position.inputs ≡ board.old.position.inputs }
-    ensures decide { Adds (DecideInOrder board.old.position.at.time 0
-        (length board.old.accepted.program.modules)) board.old.entries board.new.entries }
-    ensures none { NoneLeft board.new.position.at.left_dm
-        (length board.new.accepted.program.modules) }
+    ensures none { HaveDecided board.new.position (length board.new.accepted.program.modules) }
 {
     let count = board.typed().modules.len() as u32;
     for module in 0..count {
@@ -42,12 +41,13 @@ pub(crate) fn decide_all(board: &mut Board<'_>)
     }
 }
 
-/// A node that no guest flies fires: a coded one by its code, an external one with its stated
-/// draft.
-pub(crate) fn fire(board: &mut Board<'_>, node: u32) -> Receipt
+/// A node that no guest flies, whose turn it is, fires: a coded one by its code, an external one
+/// with its stated draft.
+pub(crate) fn fire(board: &mut OrderedBoard<'_>, node: u32) -> Receipt
     requires own { IsOwn board.old.plan node }
     requires there { node < length board.old.accepted.program.nodes }
     requires left { is_left board.old.position.at node ≡ true }
+    requires turn { HasTurn board.old.accepted.program board.old.plan board.old.position node }
     ensures same { IsSameInstant board.old board.new }
     ensures inputs { board.new.position.inputs ≡ board.old.position.inputs }
     ensures left_dm { board.new.position.at.left_dm ≡ board.old.position.at.left_dm }
@@ -63,13 +63,13 @@ pub(crate) fn fire(board: &mut Board<'_>, node: u32) -> Receipt
 }
 
 // The nodes that are left to fire do so, in declared order.
-fn fire_all(board: &mut Board<'_>)
+fn fire_all(board: &mut OrderedBoard<'_>)
     requires no_guests { HasNoGuests board.old.plan }
+    requires turn { HasTurn board.old.accepted.program board.old.plan board.old.position 0 }
     ensures same { IsSameInstant board.old board.new }
     ensures inputs { board.new.position.inputs ≡ board.old.position.inputs }
     ensures left_dm { board.new.position.at.left_dm ≡ board.old.position.at.left_dm }
-    ensures fire { Adds (FireInOrder board.old.position.at.time 0
-        (length board.old.accepted.program.nodes)) board.old.entries board.new.entries }
+    ensures goes_on { IsPrefix board.old.entries board.new.entries }
     ensures none { NoneLeft board.new.position.at.left (length board.new.accepted.program.nodes) }
 {
     let count = board.typed().nodes.len() as u32;
@@ -82,11 +82,10 @@ fn fire_all(board: &mut Board<'_>)
 
 /// All that is due in this instant: the inputs, then the decisions, then the firings. A tick may
 /// come after it, and none comes.
-pub fn finish_instant(board: &mut Board<'_>)
+pub fn finish_instant(board: &mut OrderedBoard<'_>)
     requires no_guests { HasNoGuests board.old.plan }
     ensures same { IsSameInstant board.old board.new }
-    ensures order { Adds (IsInstant board.old.accepted.program board.old.position.at.time)
-        board.old.entries board.new.entries }
+    ensures goes_on { IsPrefix board.old.entries board.new.entries }
     ensures settled { IsSettled board.new.accepted.program board.new.position }
 {
     take_inputs(board);

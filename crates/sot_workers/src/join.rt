@@ -12,8 +12,8 @@ ghost use Rattle.sot_workers.specs.Sent.{IsShiftOf, IsPlaced, IsDone, HasSeenWho
 
 use crate::lists::NodeList;
 use crate::place::{Done, Place};
-use sot_board::Board;
 use sot_fly_worker::{Bells, Controller, Shift, take_turn};
+use sot_ordered_board::OrderedBoard;
 use sot_turn::{Pass, Turn};
 use std::sync::Wait;
 use std::thread::Threads;
@@ -22,7 +22,7 @@ use std::thread::Threads;
 /// of its work here.
 pub(crate) fn finish<'a, C: Controller, R: Wait>(
     rt: &R,
-    turn: &Turn<Board<'a>>,
+    turn: &Turn<OrderedBoard<'a>>,
     bells: &Bells,
     shift: Shift<'a, C>,
 ) -> Shift<'a, C>
@@ -44,10 +44,10 @@ pub(crate) fn finish<'a, C: Controller, R: Wait>(
 
 // A finished shift gives its pass, its list and its guest back.
 fn part<'a, C: Controller>(
-    turn: &Turn<Board<'a>>,
-    pass: Pass<Board<'a>>,
+    turn: &Turn<OrderedBoard<'a>>,
+    pass: Pass<OrderedBoard<'a>>,
     shift: Shift<'a, C>,
-) -> (Pass<Board<'a>>, Done<C>)
+) -> (Pass<OrderedBoard<'a>>, Done<C>)
     requires lock { (pass_lock pass ≡ lock_of turn.now)
         × (pass_lock shift.pass ≡ lock_of turn.now) }
     requires guest { (guest : C) × (shift.guest ≡ Some guest) }
@@ -78,11 +78,11 @@ fn part<'a, C: Controller>(
 // The shift of a guest comes to its end, and gives back what it has.
 fn end<'a, C: Controller, R: Wait>(
     rt: &R,
-    turn: &Turn<Board<'a>>,
+    turn: &Turn<OrderedBoard<'a>>,
     bells: &Bells,
-    pass: Pass<Board<'a>>,
+    pass: Pass<OrderedBoard<'a>>,
     shift: Shift<'a, C>,
-) -> (Pass<Board<'a>>, Done<C>)
+) -> (Pass<OrderedBoard<'a>>, Done<C>)
     requires lock { pass_lock pass ≡ lock_of turn.now }
     requires placed { (a : Admitted) × (f : Plan) × (number : ℕ) × (guest : C)
         × (began : Shift C.row.Denot) × IsShiftOf (lock_of turn.now) a f number guest began
@@ -101,11 +101,11 @@ fn end<'a, C: Controller, R: Wait>(
 
 fn join_one<'a, C: Controller, R: Threads + Wait>(
     rt: &R,
-    turn: &Turn<Board<'a>>,
+    turn: &Turn<OrderedBoard<'a>>,
     bells: &Bells,
-    pass: Pass<Board<'a>>,
+    pass: Pass<OrderedBoard<'a>>,
     place: Place<'a, C>,
-) -> (Pass<Board<'a>>, Done<C>)
+) -> (Pass<OrderedBoard<'a>>, Done<C>)
     requires lock { pass_lock pass ≡ lock_of turn.now }
     requires placed { (a : Admitted) × (f : Plan) × (number : ℕ) × (guest : C)
         × IsPlaced C.asked (lock_of turn.now) a f number guest place }
@@ -128,12 +128,12 @@ fn join_one<'a, C: Controller, R: Threads + Wait>(
 /// All guests come back, each thread being waited for.
 pub(crate) fn join_each<'a, C: Controller, R: Threads + Wait>(
     rt: &R,
-    turn: &Turn<Board<'a>>,
+    turn: &Turn<OrderedBoard<'a>>,
     bells: &Bells,
-    pass: Pass<Board<'a>>,
+    pass: Pass<OrderedBoard<'a>>,
     places: Vec<Place<'a, C>>,
     mut dones: Vec<Done<C>>,
-) -> (Pass<Board<'a>>, Vec<Done<C>>)
+) -> (Pass<OrderedBoard<'a>>, Vec<Done<C>>)
     requires lock { pass_lock pass ≡ lock_of turn.now }
     requires placed { (a : Admitted) × (f : Plan) × (guests : List C)
         × EachFrom (IsPlaced C.asked (lock_of turn.now) a f) 0 guests places.items }

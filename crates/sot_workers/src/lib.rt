@@ -31,5 +31,4 @@ mod whole;
 pub use crewed::{Flown, fly};
 pub use lists::NodeList;
 pub use nobody::{Nobody, fly_without_guests};
-pub use rule::has_workers;
 pub use whole::fly_alone;

@@ -2,7 +2,8 @@
 
 ghost use Rattle.std.specs.Prelude.{◌≡◌, [], length, None, IfOk};
 ghost use Rattle.sot_board.specs.Flown.{FlownBy};
-ghost use Rattle.sot_workers.specs.Flying.{HasNoGuests};
+ghost use Rattle.sot_ordered_board.specs.Crews.{HasNoGuests};
+ghost use Rattle.sot_ordered_board.specs.Order.{FliesInOrder};
 ghost use Rattle.sot_workers.specs.Lists.{AreLists};
 
 use crate::crewed::{Flown, fly};
@@ -34,6 +35,8 @@ pub fn fly_without_guests<'a, R: Threads + Wait + Sync>(
     requires no_guests { HasNoGuests board.plan }
     ensures flown { IfOk result (λ r. FlownBy r.board.accepted.program r.board.accepted.cert.jitter
         r.board.plan r.board.entries) }
+    ensures order { IfOk result (λ r. FliesInOrder r.board.accepted.program
+        r.board.accepted.cert.jitter r.board.plan r.board.entries) }
     ensures accepted { IfOk result (λ r. r.board.accepted ≡ board.entry.accepted) }
     ensures plan { IfOk result (λ r. r.board.plan ≡ board.entry.plan) }
     ensures lists { IfOk result (λ r. AreLists (length r.board.accepted.program.nodes) r.lists.items

@@ -1,6 +1,6 @@
 //! What the caller does on a board while it has the turn.
 
-ghost use Rattle.std.specs.Prelude.{◌≡◌, ◌<◌, ◌↔◌, ℕ, List, length, true, false, IsTrue};
+ghost use Rattle.std.specs.Prelude.{◌≡◌, ◌<◌, ◌↔◌, ◌+◌, ℕ, List, length, true, false, IsTrue};
 ghost use Rattle.std.specs.Prelude.{slice_index_or};
 ghost use Rattle.sot_turn.specs.Prefixes.{IsPrefix};
 ghost use Rattle.sot_world.specs.Configurations.{is_left};
@@ -8,14 +8,16 @@ ghost use Rattle.sot_world.specs.HistoryEntry.{Logged};
 ghost use Rattle.sot_board.specs.Versions.{drafts_of};
 ghost use Rattle.sot_board.specs.Calls.{MayTickNow};
 ghost use Rattle.sot_workers.specs.Flying.{IsMine};
+ghost use Rattle.sot_ordered_board.specs.Crews.{IsOwn};
+ghost use Rattle.sot_ordered_board.specs.Order.{HaveDecided, HaveFired, HasTurn};
 ghost use Rattle.sot_workers.specs.Instants.{IsSameInstant, GoesOn};
 ghost use Rattle.sot_workers.specs.Lists.{AreMine, KeepsLists};
 
 use crate::instant::{decide_all, fire, take_inputs};
 use crate::lists::NodeList;
-use sot_board::Board;
 use sot_flight::Flight;
 use sot_fly_worker::{Bells, stop};
+use sot_ordered_board::OrderedBoard;
 use std::sync::Wait;
 
 // Whether a node is noted to have a thread.
@@ -41,7 +43,7 @@ fn is_mine(flight: &Flight, away: &[bool], node: u32) -> bool
 // A node that the caller fires does so, and its list gets the draft.
 fn fire_own<R: Wait>(
     rt: &R,
-    board: &mut Board<'_>,
+    board: &mut OrderedBoard<'_>,
     away: &[bool],
     lists: &mut Vec<NodeList>,
     node: u32,
@@ -50,8 +52,12 @@ fn fire_own<R: Wait>(
     requires mine { IsMine board.old.plan away.now node }
     requires there { node < length board.old.accepted.program.nodes }
     requires left { is_left board.old.position.at node ≡ true }
+    requires turn { HasTurn board.old.accepted.program board.old.plan board.old.position node }
     ensures same { IsSameInstant board.old board.new }
     ensures goes_on { IsPrefix board.old.entries board.new.entries }
+    ensures left_dm { board.new.position.at.left_dm ≡ board.old.position.at.left_dm }
+    ensures behind { HasTurn board.new.accepted.program board.new.plan
+        board.new.position (node + 1) }
     ensures lists { KeepsLists board.new away.now lists.new.items }
 {
     let receipt = fire(board, node);
@@ -62,15 +68,19 @@ fn fire_own<R: Wait>(
 // fire: no worker in a thread is to fire before them.
 fn fire_if_mine<R: Wait>(
     rt: &R,
-    board: &mut Board<'_>,
+    board: &mut OrderedBoard<'_>,
     away: &[bool],
     lists: &mut Vec<NodeList>,
     node: u32,
 ) -> bool
     requires lists { KeepsLists board.old away.now lists.old.items }
     requires there { node < length board.old.accepted.program.nodes }
+    requires turn { HasTurn board.old.accepted.program board.old.plan board.old.position node }
     ensures same { IsSameInstant board.old board.new }
     ensures goes_on { IsPrefix board.old.entries board.new.entries }
+    ensures left_dm { board.new.position.at.left_dm ≡ board.old.position.at.left_dm }
+    ensures behind { result ≡ true → HasTurn board.new.accepted.program board.new.plan
+        board.new.position (node + 1) }
     ensures lists { KeepsLists board.new away.now lists.new.items }
 {
     board.reveal_invariant();
@@ -88,7 +98,7 @@ fn fire_if_mine<R: Wait>(
 // is done. It answers whether the nodes behind it may fire.
 fn fire_in_order<R: Wait>(
     rt: &R,
-    board: &mut Board<'_>,
+    board: &mut OrderedBoard<'_>,
     away: &[bool],
     lists: &mut Vec<NodeList>,
     node: u32,
@@ -96,8 +106,13 @@ fn fire_in_order<R: Wait>(
 ) -> bool
     requires lists { KeepsLists board.old away.now lists.old.items }
     requires there { node < length board.old.accepted.program.nodes }
+    requires turn { may ≡ true → HasTurn board.old.accepted.program board.old.plan
+        board.old.position node }
     ensures same { IsSameInstant board.old board.new }
     ensures goes_on { IsPrefix board.old.entries board.new.entries }
+    ensures left_dm { board.new.position.at.left_dm ≡ board.old.position.at.left_dm }
+    ensures behind { result ≡ true → HasTurn board.new.accepted.program board.new.plan
+        board.new.position (node + 1) }
     ensures lists { KeepsLists board.new away.now lists.new.items }
 {
     if !may {
@@ -108,10 +123,17 @@ fn fire_in_order<R: Wait>(
 
 // The nodes that the caller fires and that are left do so, in declared order, up to one that a
 // worker in a thread is to fire.
-fn fire_all_mine<R: Wait>(rt: &R, board: &mut Board<'_>, away: &[bool], lists: &mut Vec<NodeList>)
+fn fire_all_mine<R: Wait>(
+    rt: &R,
+    board: &mut OrderedBoard<'_>,
+    away: &[bool],
+    lists: &mut Vec<NodeList>,
+)
     requires lists { KeepsLists board.old away.now lists.old.items }
+    requires turn { HasTurn board.old.accepted.program board.old.plan board.old.position 0 }
     ensures same { IsSameInstant board.old board.new }
     ensures goes_on { IsPrefix board.old.entries board.new.entries }
+    ensures left_dm { board.new.position.at.left_dm ≡ board.old.position.at.left_dm }
     ensures lists { KeepsLists board.new away.now lists.new.items }
 {
     let count = board.typed().nodes.len() as u32;
@@ -122,10 +144,17 @@ fn fire_all_mine<R: Wait>(rt: &R, board: &mut Board<'_>, away: &[bool], lists: &
 }
 
 // All that the caller does in an instant: the inputs, then the decisions, then the firings.
-fn work_instant<R: Wait>(rt: &R, board: &mut Board<'_>, away: &[bool], lists: &mut Vec<NodeList>)
+fn work_instant<R: Wait>(
+    rt: &R,
+    board: &mut OrderedBoard<'_>,
+    away: &[bool],
+    lists: &mut Vec<NodeList>,
+)
     requires lists { KeepsLists board.old away.now lists.old.items }
     ensures same { IsSameInstant board.old board.new }
     ensures goes_on { IsPrefix board.old.entries board.new.entries }
+    ensures decided { HaveDecided board.new.position
+        (length board.new.accepted.program.modules) }
     ensures lists { KeepsLists board.new away.now lists.new.items }
 {
     take_inputs(board);
@@ -135,8 +164,10 @@ fn work_instant<R: Wait>(rt: &R, board: &mut Board<'_>, away: &[bool], lists: &m
 
 // Whether no tick has to wait for a node: it is not left, or a guest flies it and was asked for
 // this firing.
-fn is_asked(board: &Board<'_>, bells: &Bells, node: u32) -> bool
+fn is_asked(board: &OrderedBoard<'_>, bells: &Bells, node: u32) -> bool
     requires { node < length board.now.accepted.program.nodes }
+    ensures { result ≡ true → IsOwn board.now.plan node
+        → is_left board.now.position.at node ≡ false }
 {
     board.reveal_invariant();
     !board.left(node)
@@ -144,9 +175,11 @@ fn is_asked(board: &Board<'_>, bells: &Bells, node: u32) -> bool
 }
 
 // Whether a tick may come, and waits for no node.
-fn may_go_on(board: &Board<'_>, bells: &Bells) -> bool
-    ensures { IsTrue result → MayTickNow board.now.accepted.program
+fn may_go_on(board: &OrderedBoard<'_>, bells: &Bells) -> bool
+    ensures may { IsTrue result → MayTickNow board.now.accepted.program
         board.now.accepted.cert.jitter board.now.position }
+    ensures fired { IsTrue result → HaveFired board.now.plan board.now.position
+        (length board.now.accepted.program.nodes) }
 {
     for node in 0..board.typed().nodes.len() as u32 {
         if !is_asked(board, bells, node) {
@@ -160,7 +193,7 @@ fn may_go_on(board: &Board<'_>, bells: &Bells) -> bool
 /// it may come, and so on. Before a tick comes, each guest whose node is left is asked.
 pub(crate) fn work_on<R: Wait>(
     rt: &R,
-    board: &mut Board<'_>,
+    board: &mut OrderedBoard<'_>,
     bells: &Bells,
     away: &[bool],
     lists: &mut Vec<NodeList>,
@@ -178,7 +211,7 @@ pub(crate) fn work_on<R: Wait>(
 }
 
 // Whether a node that the caller fires has fired as often as its list is long.
-fn is_in_step(board: &Board<'_>, away: &[bool], list: &NodeList, node: u32) -> bool
+fn is_in_step(board: &OrderedBoard<'_>, away: &[bool], list: &NodeList, node: u32) -> bool
     requires { node < length board.now.accepted.program.nodes }
     ensures { result ≡ true → IsMine board.now.plan away.now node
         → length (drafts_of node board.now.entries) ≡ length list.now.drafts.items }
@@ -189,7 +222,12 @@ fn is_in_step(board: &Board<'_>, away: &[bool], list: &NodeList, node: u32) -> b
 
 /// Compares the lists with the board: where a node that the caller fires has fired other than by
 /// the caller, it waits without end.
-pub(crate) fn compare<R: Wait>(rt: &R, board: &Board<'_>, away: &[bool], lists: &Vec<NodeList>)
+pub(crate) fn compare<R: Wait>(
+    rt: &R,
+    board: &OrderedBoard<'_>,
+    away: &[bool],
+    lists: &Vec<NodeList>,
+)
     ensures { (seen : List Logged) → IsPrefix seen board.now.entries
         → AreMine (length board.now.accepted.program.nodes) board.now.plan away.now lists.now.items
         seen

@@ -1,8 +1,8 @@
 //! Where a guest, and the worker of a node that no guest flies, is while a flight is flown.
 
 use crate::lists::NodeList;
-use sot_board::Board;
 use sot_fly_worker::{Controller, Shift, Works};
+use sot_ordered_board::OrderedBoard;
 use sot_turn::Pass;
 use std::thread::PromisedHandle;
 
@@ -27,7 +27,7 @@ pub(crate) enum Place<'a, C: Controller> {
 #[derive(Drop)]
 pub(crate) enum Station<'a, C: Controller> {
     Guest,
-    Caller(Pass<Board<'a>>),
+    Caller(Pass<OrderedBoard<'a>>),
     Thread(PromisedHandle<Shift<'a, C>, Works<'a, C>>),
 }
 

@@ -17,18 +17,18 @@ use crate::back::put_list;
 use crate::join::finish;
 use crate::lists::NodeList;
 use crate::place::Station;
-use sot_board::Board;
 use sot_fly_worker::{Bells, Controller, Shift};
+use sot_ordered_board::OrderedBoard;
 use sot_turn::{Pass, Turn};
 use std::sync::Wait;
 use std::thread::Threads;
 
 // A finished shift gives its pass and its list back.
 fn part<'a, C: Controller>(
-    turn: &Turn<Board<'a>>,
-    pass: Pass<Board<'a>>,
+    turn: &Turn<OrderedBoard<'a>>,
+    pass: Pass<OrderedBoard<'a>>,
     shift: Shift<'a, C>,
-) -> (Pass<Board<'a>>, NodeList)
+) -> (Pass<OrderedBoard<'a>>, NodeList)
     requires lock { (pass_lock pass ≡ lock_of turn.now)
         × (pass_lock shift.pass ≡ lock_of turn.now) }
     ensures lock { pass_lock result.0 ≡ pass_lock pass.entry }
@@ -52,11 +52,11 @@ fn part<'a, C: Controller>(
 // A shift that came back from its thread comes to its end.
 fn end<'a, C: Controller, R: Wait>(
     rt: &R,
-    turn: &Turn<Board<'a>>,
+    turn: &Turn<OrderedBoard<'a>>,
     bells: &Bells,
-    pass: Pass<Board<'a>>,
+    pass: Pass<OrderedBoard<'a>>,
     shift: Shift<'a, C>,
-) -> (Pass<Board<'a>>, NodeList)
+) -> (Pass<OrderedBoard<'a>>, NodeList)
     requires lock { pass_lock pass ≡ lock_of turn.now }
     requires began { (a : Admitted) × (f : Plan) × (n : ℕ) × (began : Shift C.row.Denot)
         × IsNodeShift (lock_of turn.now) a f n began × IsOnShift C.asked began shift }
@@ -74,11 +74,11 @@ fn end<'a, C: Controller, R: Wait>(
 
 fn relieve<'a, C: Controller, R: Threads + Wait>(
     rt: &R,
-    turn: &Turn<Board<'a>>,
+    turn: &Turn<OrderedBoard<'a>>,
     bells: &Bells,
-    pass: Pass<Board<'a>>,
+    pass: Pass<OrderedBoard<'a>>,
     station: Station<'a, C>,
-) -> (Pass<Board<'a>>, Option<NodeList>)
+) -> (Pass<OrderedBoard<'a>>, Option<NodeList>)
     requires lock { pass_lock pass ≡ lock_of turn.now }
     requires stationed { (a : Admitted) × (f : Plan) × (n : ℕ) × (away : Bool)
         × IsStationed (lock_of turn.now) a f n away station }
@@ -103,12 +103,12 @@ fn relieve<'a, C: Controller, R: Threads + Wait>(
 /// All workers are relieved, one after another: each is rung for, and its thread waited for.
 pub(crate) fn relieve_each<'a, C: Controller, R: Threads + Wait>(
     rt: &R,
-    turn: &Turn<Board<'a>>,
+    turn: &Turn<OrderedBoard<'a>>,
     bells: &Bells,
-    pass: Pass<Board<'a>>,
+    pass: Pass<OrderedBoard<'a>>,
     stations: Vec<Station<'a, C>>,
     mut relieved: Vec<Option<NodeList>>,
-) -> (Pass<Board<'a>>, Vec<Option<NodeList>>)
+) -> (Pass<OrderedBoard<'a>>, Vec<Option<NodeList>>)
     requires lock { pass_lock pass ≡ lock_of turn.now }
     requires stationed { (a : Admitted) × (f : Plan) × (away : List Bool)
         × EachFrom (IsStationed (lock_of turn.now) a f) 0 away stations.items }

@@ -2,8 +2,8 @@
 
 ghost use Rattle.std.specs.Prelude.{◌<◌, length};
 
-use sot_board::Board;
-use sot_fly_worker::{Bells, next_to_fire};
+use sot_fly_worker::Bells;
+use sot_ordered_board::{OrderedBoard, next_to_fire};
 use std::alloc::{AllocError, Global};
 
 /// For whom the caller rings once it has given its turn back, and for which firing of each node it
@@ -28,7 +28,13 @@ impl Rings {
     // Whether the worker of a node, in a thread, is to be rung for: its node is left, a guest flies
     // it or its body is long, and it was not rung for this firing; or a guest flies it, and the
     // flight is at its end.
-    fn is_to_ring(&mut self, board: &Board<'_>, long: &[bool], node: u32, finished: bool) -> bool
+    fn is_to_ring(
+        &mut self,
+        board: &OrderedBoard<'_>,
+        long: &[bool],
+        node: u32,
+        finished: bool,
+    ) -> bool
         requires { node < length board.now.accepted.program.nodes }
     {
         board.reveal_invariant();
@@ -52,7 +58,7 @@ impl Rings {
     /// Notes in a turn for whom to ring after it: for the workers of guests and of long bodies
     /// whose nodes are left, once a firing, for the one whose node fires next, and at the end of
     /// the flight for all guests'.
-    pub(crate) fn note(&mut self, board: &Board<'_>, long: &[bool]) {
+    pub(crate) fn note(&mut self, board: &OrderedBoard<'_>, long: &[bool]) {
         let finished = board.finished();
         for node in 0..board.typed().nodes.len() as u32 {
             let rings = self.is_to_ring(board, long, node, finished);

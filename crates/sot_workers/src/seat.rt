@@ -14,11 +14,11 @@ ghost use Rattle.sot_workers.specs.Sent.{IsJob};
 
 use crate::lists::NodeList;
 use crate::place::Job;
-use sot_board::Board;
 use sot_eval_flat::Flat;
 use sot_flight::Flight;
 use sot_fly_worker::{Controller, Shift};
 use sot_lang::Draft;
+use sot_ordered_board::OrderedBoard;
 use sot_turn::{Pass, Turn};
 use std::alloc::Global;
 use std::mem::replace;
@@ -74,13 +74,13 @@ pub(crate) fn take_form(forms: &mut Vec<Option<Flat>>, node: u32) -> Option<Flat
 /// The guest is given a pass and the list of its node, where it flies one.
 pub(crate) fn job_of<'a, C: Controller>(
     alloc: Global,
-    turn: &Turn<Board<'a>>,
+    turn: &Turn<OrderedBoard<'a>>,
     flight: &Flight,
-    pass: Pass<Board<'a>>,
+    pass: Pass<OrderedBoard<'a>>,
     lists: &mut Vec<NodeList>,
     number: usize,
     guest: C,
-) -> (Pass<Board<'a>>, Job<'a, C>)
+) -> (Pass<OrderedBoard<'a>>, Job<'a, C>)
     requires lock { pass_lock pass ≡ lock_of turn.now }
     requires ground { (a : Admitted) × (pass_ground pass ≡ Some (a, flight.now))
         × (length flight.now.crews ≡ length a.program.nodes) }

@@ -12,9 +12,9 @@ ghost use Rattle.sot_workers.specs.Sent.{IsJob, IsStarted, IsPlaced};
 use crate::lists::NodeList;
 use crate::place::{Job, Place};
 use crate::seat::job_of;
-use sot_board::Board;
 use sot_flight::Flight;
 use sot_fly_worker::{Bells, Controller, Shift, Works, work};
+use sot_ordered_board::OrderedBoard;
 use sot_turn::{Pass, Turn};
 use std::alloc::Global;
 use std::snapshot::Snapshot;
@@ -25,7 +25,7 @@ use std::thread::{Scope, Threads};
 pub(crate) fn start<'s, 'a: 's, E, C: Controller + Send + 's, R: Threads + Wait + Sync>(
     rt: &'s R,
     scope: &Scope<'s, E>,
-    turn: &'s Turn<Board<'a>>,
+    turn: &'s Turn<OrderedBoard<'a>>,
     bells: &'s Bells,
     shift: Shift<'a, C>,
 ) -> Place<'a, C>
@@ -53,7 +53,7 @@ pub(crate) fn start<'s, 'a: 's, E, C: Controller + Send + 's, R: Threads + Wait 
 fn place<'s, 'a: 's, E, C: Controller + Send + 's, R: Threads + Wait + Sync>(
     rt: &'s R,
     scope: &Scope<'s, E>,
-    turn: &'s Turn<Board<'a>>,
+    turn: &'s Turn<OrderedBoard<'a>>,
     bells: &'s Bells,
     job: Job<'a, C>,
 ) -> Place<'a, C>
@@ -75,14 +75,14 @@ pub(crate) fn place_each<'s, 'a: 's, E, C: Controller + Send + 's, R: Threads + 
     rt: &'s R,
     alloc: Global,
     scope: &Scope<'s, E>,
-    turn: &'s Turn<Board<'a>>,
+    turn: &'s Turn<OrderedBoard<'a>>,
     bells: &'s Bells,
     flight: &Flight,
-    pass: Pass<Board<'a>>,
+    pass: Pass<OrderedBoard<'a>>,
     lists: &mut Vec<NodeList>,
     guests: Vec<C>,
     mut places: Vec<Place<'a, C>>,
-) -> (Pass<Board<'a>>, Vec<Place<'a, C>>)
+) -> (Pass<OrderedBoard<'a>>, Vec<Place<'a, C>>)
     requires lock { pass_lock pass ≡ lock_of turn.now }
     requires ground { (a : Admitted) × (pass_ground pass ≡ Some (a, flight.now))
         × (length flight.now.crews ≡ length a.program.nodes) }

@@ -6,7 +6,7 @@ ghost use Rattle.sot_eval_flat.specs.FlatForm.{IsFormOf};
 ghost use Rattle.sot_tube.specs.Admitted.{Admitted};
 ghost use Rattle.sot_turn.specs.Passes.{lock_of, pass_lock, pass_ground, pass_seen};
 ghost use Rattle.sot_fly_worker.specs.Shifts.{IsReady, HasWorked};
-ghost use Rattle.sot_workers.specs.Flying.{IsOwn};
+ghost use Rattle.sot_ordered_board.specs.Crews.{IsOwn};
 ghost use Rattle.sot_workers.specs.Forms.{AreFormsOf};
 ghost use Rattle.sot_workers.specs.Lists.{AreEmpty};
 ghost use Rattle.sot_workers.specs.Pairs.{EachFrom};
@@ -17,10 +17,10 @@ use crate::place::{Place, Station};
 use crate::rule::is_noted;
 use crate::seat::{give_list, take_form, take_list};
 use crate::start::start;
-use sot_board::Board;
 use sot_eval_flat::Flat;
 use sot_flight::Flight;
 use sot_fly_worker::{Bells, Controller, Shift, stop};
+use sot_ordered_board::OrderedBoard;
 use sot_turn::{Pass, Turn};
 use std::alloc::Global;
 use std::sync::Wait;
@@ -70,7 +70,7 @@ fn keep<'a, C: Controller, R: Wait>(
 fn send<'s, 'a: 's, E, C: Controller + Send + 's, R: Threads + Wait + Sync>(
     rt: &'s R,
     scope: &Scope<'s, E>,
-    turn: &'s Turn<Board<'a>>,
+    turn: &'s Turn<OrderedBoard<'a>>,
     bells: &'s Bells,
     lists: &mut Vec<NodeList>,
     shift: Shift<'a, C>,
@@ -96,7 +96,7 @@ fn send<'s, 'a: 's, E, C: Controller + Send + 's, R: Threads + Wait + Sync>(
 fn assign<'s, 'a: 's, E, C: Controller + Send + 's, R: Threads + Wait + Sync>(
     rt: &'s R,
     scope: &Scope<'s, E>,
-    turn: &'s Turn<Board<'a>>,
+    turn: &'s Turn<OrderedBoard<'a>>,
     bells: &'s Bells,
     lists: &mut Vec<NodeList>,
     shift: Shift<'a, C>,
@@ -127,15 +127,15 @@ fn station_of<'s, 'a: 's, E, C: Controller + Send + 's, R: Threads + Wait + Sync
     rt: &'s R,
     alloc: Global,
     scope: &Scope<'s, E>,
-    turn: &'s Turn<Board<'a>>,
+    turn: &'s Turn<OrderedBoard<'a>>,
     bells: &'s Bells,
     flight: &Flight,
-    pass: Pass<Board<'a>>,
+    pass: Pass<OrderedBoard<'a>>,
     lists: &mut Vec<NodeList>,
     node: u32,
     is_tried: bool,
     form: Option<Flat>,
-) -> (Pass<Board<'a>>, Station<'a, C>)
+) -> (Pass<OrderedBoard<'a>>, Station<'a, C>)
     requires lock { pass_lock pass ≡ lock_of turn.now }
     requires ground { (a : Admitted) × (pass_ground pass ≡ Some (a, flight.now))
         × (length flight.now.crews ≡ length a.program.nodes) }
@@ -184,16 +184,16 @@ pub(crate) fn station_each<'s, 'a: 's, E, C: Controller + Send + 's, R: Threads 
     rt: &'s R,
     alloc: Global,
     scope: &Scope<'s, E>,
-    turn: &'s Turn<Board<'a>>,
+    turn: &'s Turn<OrderedBoard<'a>>,
     bells: &'s Bells,
     flight: &Flight,
     tried: &Vec<bool>,
-    pass: Pass<Board<'a>>,
+    pass: Pass<OrderedBoard<'a>>,
     lists: &mut Vec<NodeList>,
     mut forms: Vec<Option<Flat>>,
     mut stations: Vec<Station<'a, C>>,
     mut away: Vec<bool>,
-) -> (Pass<Board<'a>>, Vec<Station<'a, C>>, Vec<bool>)
+) -> (Pass<OrderedBoard<'a>>, Vec<Station<'a, C>>, Vec<bool>)
     requires lock { pass_lock pass ≡ lock_of turn.now }
     requires ground { (a : Admitted) × (pass_ground pass ≡ Some (a, flight.now))
         × (length flight.now.crews ≡ length a.program.nodes) }

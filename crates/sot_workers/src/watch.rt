@@ -16,15 +16,15 @@ use crate::lists::NodeList;
 use crate::own::{compare, work_on};
 use crate::place::Place;
 use crate::rings::Rings;
-use sot_board::Board;
 use sot_fly_worker::{Bells, Controller, take_turn};
+use sot_ordered_board::OrderedBoard;
 use sot_turn::{Pass, Turn};
 use std::sync::Wait;
 
 // All that the caller does in one turn. It answers whether the flight is at its end.
 fn work_in_turn<R: Wait>(
     rt: &R,
-    board: &mut Board<'_>,
+    board: &mut OrderedBoard<'_>,
     bells: &Bells,
     away: &[bool],
     long: &[bool],
@@ -49,14 +49,14 @@ fn work_in_turn<R: Wait>(
 // One turn of the caller, and the rings after it. It answers whether the flight is at its end.
 fn take_own_turn<'a, R: Wait>(
     rt: &R,
-    turn: &Turn<Board<'a>>,
-    pass: Pass<Board<'a>>,
+    turn: &Turn<OrderedBoard<'a>>,
+    pass: Pass<OrderedBoard<'a>>,
     bells: &Bells,
     away: &[bool],
     long: &[bool],
     rings: &mut Rings,
     lists: &mut Vec<NodeList>,
-) -> (Pass<Board<'a>>, bool)
+) -> (Pass<OrderedBoard<'a>>, bool)
     requires lock { pass_lock pass ≡ lock_of turn.now }
     requires callers { (a : Admitted) × (f : Plan)
         × IsCallers a f away.now (pass_ground pass) (pass_seen pass) lists.old.items }
@@ -78,7 +78,7 @@ fn take_own_turn<'a, R: Wait>(
 // A guest's shift that could not be started takes one turn. It answers whether its node has fired.
 fn turn_here<'a, C: Controller, R: Wait>(
     rt: &R,
-    turn: &Turn<Board<'a>>,
+    turn: &Turn<OrderedBoard<'a>>,
     bells: &Bells,
     place: &mut Place<'a, C>,
 ) -> bool
@@ -103,7 +103,7 @@ fn turn_here<'a, C: Controller, R: Wait>(
 // Each guest's shift that could not be started takes one turn. It answers whether a node has fired.
 fn turn_each<'a, C: Controller, R: Wait>(
     rt: &R,
-    turn: &Turn<Board<'a>>,
+    turn: &Turn<OrderedBoard<'a>>,
     bells: &Bells,
     places: &mut Vec<Place<'a, C>>,
 ) -> bool
@@ -126,15 +126,15 @@ fn turn_each<'a, C: Controller, R: Wait>(
 /// end. Where none of these has fired, it parks until a worker in a thread rings.
 pub(crate) fn watch<'a, C: Controller, R: Wait>(
     rt: &R,
-    turn: &Turn<Board<'a>>,
+    turn: &Turn<OrderedBoard<'a>>,
     bells: &Bells,
     away: &[bool],
     long: &[bool],
     rings: &mut Rings,
-    pass: Pass<Board<'a>>,
+    pass: Pass<OrderedBoard<'a>>,
     lists: &mut Vec<NodeList>,
     places: &mut Vec<Place<'a, C>>,
-) -> Pass<Board<'a>>
+) -> Pass<OrderedBoard<'a>>
     requires lock { pass_lock pass ≡ lock_of turn.now }
     requires callers { (a : Admitted) × (f : Plan)
         × IsCallers a f away.now (pass_ground pass) (pass_seen pass) lists.old.items }

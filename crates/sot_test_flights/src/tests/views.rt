@@ -2,7 +2,7 @@
 //! where it is not.
 ghost use Rattle.std.specs.Prelude.{◌≡◌, ◌<◌, true, length};
 ghost use Rattle.sot_world.specs.NodeSorts.{IsCodedNode, IsExternalNode};
-ghost use Rattle.sot_workers.specs.Flying.{HasNoGuests};
+ghost use Rattle.sot_ordered_board.specs.Crews.{HasNoGuests};
 ghost use Rattle.sot_world.specs.Configurations.{is_left};
 ghost use Rattle.sot_board.specs.Calls.{InputDue};
 ghost use Rattle.sot_board.specs.Commits.{IsTakenFrom, IsRunOn};

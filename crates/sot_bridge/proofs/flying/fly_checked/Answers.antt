@@ -4,7 +4,7 @@ use Rattle.sot_bridge.proofs.Forms.{joins_second, judges_second, second_result, 
 use Rattle.sot_bridge.proofs.flying.fly_checked.Goals as goal
 
 pub fly_accepted-requires-clause-joins : goal.fly_accepted-requires-clause-joins
-fly_accepted-requires-clause-joins g c =
+fly_accepted-requires-clause-joins g c κs within =
     let joins = c.requires.joins in
     let b = c.args.b.now in (
       joins.0,

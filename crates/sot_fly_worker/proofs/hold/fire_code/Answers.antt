@@ -5,8 +5,9 @@ use Rattle.sot_board.specs.Versions.{drafts_of}
 use Rattle.sot_board.specs.Views.{viewed_node}
 use Rattle.sot_board.specs.Commits.{IsRunOn}
 use Rattle.sot_world.specs.NodeSorts.{IsCodedNode}
+use Rattle.sot_ordered_board.specs.Turns.{FiresNext}
 use Rattle.sot_fly_worker.specs.Holds.{HasNode, HasFired}
-use Rattle.sot_fly_worker.proofs.Firing.{has_fired, noted, node_there, same_program, taken_from}
+use Rattle.sot_fly_worker.proofs.Firing.{has_fired, noted, same_program, taken_from}
 use Rattle.sot_fly_worker.proofs.hold.fire_code.Goals as goal
 
 pub run-fired-requires-clause-due : goal.run-fired-requires-clause-due
@@ -18,11 +19,10 @@ take_next-held-requires-clause-there g c = subst (HasNode (pass_ground c.args.pa
 pub take_next-held-requires-clause-drafts : goal.take_next-held-requires-clause-drafts
 take_next-held-requires-clause-drafts g c = c.requires.drafts ∙ ap (λ n. drafts_of n (pass_seen c.args.pass)) (sym c.node.ensures)
 
-pub commit_run-receipt-requires-clause-there : goal.commit_run-receipt-requires-clause-there
-commit_run-receipt-requires-clause-there g c =
-    let b = c.lend.result.now in
-    node_there (pass_ground c.args.pass) (viewed_node c.args.view) b c.requires.there
-    (c.take_next-held.ensures.ground_now ∙ ap (λ x. Some (x.accepted, x.plan)) (sym c.lend.ensures.value))
+pub commit_run-receipt-requires-clause-next : goal.commit_run-receipt-requires-clause-next
+commit_run-receipt-requires-clause-next g c =
+    subst (λ b. FiresNext b (viewed_node c.args.view)) (sym c.lend.ensures.value)
+    (subst (FiresNext (held_value c.take_next-held.result)) c.node.ensures c.take_next-held.ensures.next)
 
 pub commit_run-receipt-requires-clause-coded : goal.commit_run-receipt-requires-clause-coded
 commit_run-receipt-requires-clause-coded g c =

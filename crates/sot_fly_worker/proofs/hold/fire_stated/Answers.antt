@@ -1,26 +1,19 @@
 use Rattle.std.proofs.Common.{◌≡◌, ◌∙◌, ◌∷◌, ◌++◌, [], Some, sym, ap, ap₂, subst}
 use Rattle.sot_turn.specs.Prefixes.{IsPrefix, behind}
-use Rattle.sot_turn.specs.Passes.{pass_seen, pass_ground, pass_added}
+use Rattle.sot_turn.specs.Passes.{pass_seen, pass_added}
 use Rattle.sot_board.specs.Versions.{drafts_of}
+use Rattle.sot_ordered_board.specs.Turns.{FiresNext}
 use Rattle.sot_fly_worker.specs.Holds.{HasFired}
-use Rattle.sot_fly_worker.proofs.Firing.{has_fired, noted, node_there}
+use Rattle.sot_fly_worker.proofs.Firing.{has_fired, noted}
 use Rattle.sot_fly_worker.proofs.hold.fire_stated.Goals as goal
 
-pub commit_stated-receipt-requires-clause-there : goal.commit_stated-receipt-requires-clause-there
-commit_stated-receipt-requires-clause-there g c =
-    let b = c.lend.result.now in
-    node_there (pass_ground c.args.pass) c.args.node b c.requires.there
-    (c.take_next-held.ensures.ground_now ∙ ap (λ x. Some (x.accepted, x.plan)) (sym c.lend.ensures.value))
+pub commit_stated-receipt-requires-clause-next : goal.commit_stated-receipt-requires-clause-next
+commit_stated-receipt-requires-clause-next g c = subst (λ b. FiresNext b c.args.node) (sym c.lend.ensures.value) c.take_next-held.ensures.next
 
 pub commit_stated-receipt-requires-clause-external : goal.commit_stated-receipt-requires-clause-external
 commit_stated-receipt-requires-clause-external g c =
     let b = c.lend.result.now in
     c.requires.external b.accepted b.plan (c.take_next-held.ensures.ground_now ∙ ap (λ x. Some (x.accepted, x.plan)) (sym c.lend.ensures.value))
-
-pub commit_stated-receipt-requires-clause-no_guest : goal.commit_stated-receipt-requires-clause-no_guest
-commit_stated-receipt-requires-clause-no_guest g c =
-    let b = c.lend.result.now in
-    c.requires.no_guest b.accepted b.plan (c.take_next-held.ensures.ground_now ∙ ap (λ x. Some (x.accepted, x.plan)) (sym c.lend.ensures.value))
 
 pub returns-clause-fired : goal.returns-clause-fired
 returns-clause-fired g c =

@@ -41,3 +41,6 @@ returns-then-is_next-clause-goes_on g c =
     let on : IsPrefix (pass_seen c.loop.pass) b.entries =
     subst (λ x. IsPrefix (pass_seen c.loop.pass) x.entries) (sym c.lend.ensures.value) c.take_in_step-held.ensures.goes_on in
     goes_further (pass_seen c.args.pass) (pass_seen c.loop.pass) b.entries c.loop.invariant.seen on
+
+pub returns-then-is_next-clause-next : goal.returns-then-is_next-clause-next
+returns-then-is_next-clause-next g c = c.is_next.ensures c.if-is_next.true

@@ -52,15 +52,6 @@ fire_stated-pass-requires-clause-external g c = λ a f is.
     subst (λ (x : Admitted × Plan). IsExternalNode x.0.program c.args.shift.node) (same_Some (b.accepted, b.plan) (a, f) (sym known ∙ is))
     c.in-Stated.ensures.sight.2
 
-pub fire_stated-pass-requires-clause-no_guest : goal.fire_stated-pass-requires-clause-no_guest
-fire_stated-pass-requires-clause-no_guest g c = λ a f is.
-    let at = c.requires.at_work in
-    let n = c.args.shift.node in
-    let none = none_there c.args.shift.guest (sym c.is_some.ensures ∙ c.in-Stated.ensures.sight.0) in
-    let has = subst (HasItsGuest at.plan n) none at.guest in
-    let known = c.give-pass.ensures.ground ∙ c.take_in_step-held.ensures.ground ∙ at.ground in
-    subst (λ (x : Admitted × Plan). (i : ℕ) → At x.1.crews n (Guest i) → ⊥) (same_Some (at.accepted, at.plan) (a, f) (sym known ∙ is)) has
-
 pub fire_code-pass-requires-clause-there : goal.fire_code-pass-requires-clause-there
 fire_code-pass-requires-clause-there g c =
     let at = c.requires.at_work in

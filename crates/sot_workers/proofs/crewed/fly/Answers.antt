@@ -1,6 +1,7 @@
 use Rattle.std.proofs.Common.{◌≡◌, ◌∙◌, ◌<◌, ℕ, length, Some, sym, ap, subst, arith}
 use Rattle.sot_lists.specs.Places.{At}
 use Rattle.sot_flight.specs.Plans.{Guest}
+use Rattle.sot_board.specs.Standing.{Standing}
 use Rattle.sot_turn.specs.Passes.{pass_ground}
 use Rattle.sot_workers.specs.Forms.{AreFormsOf}
 use Rattle.sot_workers.specs.Pairs.{EachFrom}
@@ -14,7 +15,7 @@ pub fly_behind-requires-clause-ground : goal.fly_behind-requires-clause-ground
 fly_behind-requires-clause-ground g c κs within =
     let b = c.args.board in (
       b.accepted,
-      c.in_ok-turn.ensures.ground ∙ ap (λ f. Some (b.accepted, f)) (sym c.flight-flight.ensures),
+      (c.in_ok-turn.ensures.ground ∙ ap (λ (s : Standing). Some (s.accepted, s.plan)) c.new-ordered.ensures) ∙ ap (λ f. Some (b.accepted, f)) (sym c.flight-flight.ensures),
       ap (λ f. length f.crews) c.flight-flight.ensures
           ∙ c.reveal_invariant.ensures.fits.crews,
     )
@@ -22,14 +23,15 @@ fly_behind-requires-clause-ground g c κs within =
 pub fly_behind-requires-clause-forms : goal.fly_behind-requires-clause-forms
 fly_behind-requires-clause-forms g c κs within = λ a is.
     let b = c.args.board in
-    let same = ground_same (pass_ground c.in_ok-turn.pass) b.accepted a b.plan _ c.in_ok-turn.ensures.ground is in
+    let same = ground_same (pass_ground c.in_ok-turn.pass) b.accepted a b.plan _ (c.in_ok-turn.ensures.ground ∙ ap (λ (s : Standing). Some (s.accepted, s.plan)) c.new-ordered.ensures) is in
     subst (λ t. AreFormsOf t c.in_ok-room.room.forms.items) (c.typed-p.ensures ∙ ap (λ x. x.program) same.0) c.in_ok-room.ensures.forms
 
 pub returns-clause-lists : goal.returns-clause-lists
 returns-clause-lists g c =
     let b = c.fly_behind.result.board in
     let guests = c.swap.new.y in
-    let same = ground_same (pass_ground c.in_ok-turn.pass) c.args.board.accepted b.accepted c.args.board.plan b.plan c.in_ok-turn.ensures.ground
+    let same = ground_same (pass_ground c.in_ok-turn.pass) c.args.board.accepted b.accepted c.args.board.plan b.plan
+    (c.in_ok-turn.ensures.ground ∙ ap (λ (s : Standing). Some (s.accepted, s.plan)) c.new-ordered.ensures)
     c.fly_behind.ensures.ground in
     let there : (n i : ℕ) → At b.plan.crews n (Guest i) → i < length guests.items =
     λ n i at.
@@ -57,7 +59,8 @@ returns-clause-asked g c =
     let now = c.fly_behind.new.guests.items in
     let R = IsGuestBack g.C.Controller.asked b.accepted b.plan b.entries in
     let each = subst (λ v. EachFrom R 0 v.items now) c.swap.ensures.y_after c.fly_behind.ensures.guests in
-    let same = ground_same (pass_ground c.in_ok-turn.pass) c.args.board.accepted b.accepted c.args.board.plan b.plan c.in_ok-turn.ensures.ground
+    let same = ground_same (pass_ground c.in_ok-turn.pass) c.args.board.accepted b.accepted c.args.board.plan b.plan
+    (c.in_ok-turn.ensures.ground ∙ ap (λ (s : Standing). Some (s.accepted, s.plan)) c.new-ordered.ensures)
     c.fly_behind.ensures.ground in
     let once : FliesOnce b.plan = subst FliesOnce same.1 c.reveal_invariant.ensures.fits.guests_once in
     each_answered g.C.Controller.asked b.accepted b.plan b.entries c.args.guests.now.items now once each

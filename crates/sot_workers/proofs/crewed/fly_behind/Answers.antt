@@ -1,5 +1,6 @@
 use Rattle.std.proofs.Common.{◌≡◌, ◌∙◌, length, subst, arith}
 use Rattle.sot_turn.specs.Passes.{pass_ground, pass_seen}
+use Rattle.sot_ordered_board.proofs.OneHistory.{whole_in_order}
 use Rattle.sot_workers.specs.Back.{AreListsBack}
 use Rattle.sot_workers.specs.Sent.{IsDone}
 use Rattle.sot_workers.proofs.PairFacts.{each_length}
@@ -29,6 +30,11 @@ returns-clause-flown g c =
     let is = c.close-board.ensures.whole known.0 f back.whole ground back.seen_whole in
     (are_home g.C.Controller.asked known.0 f b c.args.room.guests.items (pass_seen landed.result.pass) landed.result.lists.items landed.result.dones.items same
     back is).flown
+
+pub returns-clause-order : goal.returns-clause-order
+returns-clause-order g c =
+    let b = c.close-board.result in
+    whole_in_order b.accepted.program b.accepted.cert.jitter b.plan b.entries b.position c.close-board.ensures.order (returns-clause-flown g c)
 
 pub returns-clause-guests : goal.returns-clause-guests
 returns-clause-guests g c =

@@ -1,6 +1,5 @@
 use Rattle.std.proofs.Common.{◌≡◌, length}
 use Rattle.sot_workers.specs.Instants.{IsSameInstant, AddsNoFiring, NoneLeft}
-use Rattle.sot_workers.specs.Order.{DecideInOrder, Adds}
 use Rattle.sot_workers.proofs.instant.decide_all.Given as goal
 
 -- the modules so far are not left
@@ -8,7 +7,6 @@ abbrev pub invariant-loop-module : goal.invariant-loop-module
 invariant-loop-module l = record {
   same : IsSameInstant l.fn.board l.board;
   entries : AddsNoFiring l.fn.board.entries l.board.entries;
-  decide : Adds (DecideInOrder l.fn.board.position.at.time 0 l.«module») l.fn.board.entries l.board.entries;
   inputs : l.board.position.inputs ≡ l.fn.board.position.inputs;
   none : NoneLeft l.board.position.at.left_dm l.«module»;
   count : l.count ≡ length l.fn.board.accepted.program.modules;

@@ -1,6 +1,7 @@
 use Rattle.std.proofs.Common.{◌≡◌, length}
 use Rattle.sot_workers.specs.Instants.{IsSameInstant, NoneLeft}
-use Rattle.sot_workers.specs.Order.{FireInOrder, Adds}
+use Rattle.sot_turn.specs.Prefixes.{IsPrefix}
+use Rattle.sot_workers.proofs.Turns.{Turn}
 use Rattle.sot_workers.proofs.instant.fire_all.Given as goal
 
 -- the nodes so far are not left
@@ -9,7 +10,8 @@ invariant-loop-node l = record {
   same : IsSameInstant l.fn.board l.board;
   inputs : l.board.position.inputs ≡ l.fn.board.position.inputs;
   left_dm : l.board.position.at.left_dm ≡ l.fn.board.position.at.left_dm;
-  fire : Adds (FireInOrder l.fn.board.position.at.time 0 l.node) l.fn.board.entries l.board.entries;
+  goes_on : IsPrefix l.fn.board.entries l.board.entries;
+  turn : Turn l.board l.node;
   none : NoneLeft l.board.position.at.left l.node;
   count : l.count ≡ length l.fn.board.accepted.program.nodes;
 }

@@ -1,7 +1,13 @@
 use Rattle.std.proofs.Common.{◌<◌, length, refl, arith}
 use Rattle.std.proofs.lemmas.Option.{slice_get_read}
 use Rattle.sot_workers.proofs.ListFacts.{keeps_more}
+use Rattle.sot_workers.proofs.Turns.{turn_after}
 use Rattle.sot_workers.proofs.own.fire_own.Goals as goal
+
+pub returns-clause-behind : goal.returns-clause-behind
+returns-clause-behind g c =
+    let did = c.fire-receipt.ensures in
+    turn_after c.args.board.now c.fire-receipt.new.board c.args.node did.same did.inputs did.left_dm did.left c.requires.turn
 
 pub returns-clause-lists : goal.returns-clause-lists
 returns-clause-lists g c =

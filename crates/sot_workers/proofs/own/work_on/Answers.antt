@@ -1,6 +1,7 @@
 use Rattle.std.proofs.Common.{arith}
 use Rattle.sot_workers.proofs.Effects.{tick_time}
 use Rattle.sot_workers.proofs.Going.{goes_on_same, goes_on_again, tick_goes_on, tick_keeps}
+use Rattle.sot_workers.proofs.Turns.{turn_of_tick}
 use Rattle.sot_workers.proofs.own.work_on.Goals as goal
 
 pub work_instant-requires-in-ticks : goal.work_instant-requires-in-ticks
@@ -11,6 +12,7 @@ work_instant-requires-in-ticks g c = record {
 pub ticks-init : goal.ticks-init
 ticks-init g c = record {
   goes_on = goes_on_same c.args.board.now c.work_instant.new.board c.work_instant.ensures.same c.work_instant.ensures.goes_on;
+  decided = c.work_instant.ensures.decided;
   lists = c.work_instant.ensures.lists;
 }
 
@@ -24,8 +26,14 @@ ticks-preserved g c =
       goes_on = goes_on_again start old work.new.board c.ticks.invariant.goes_on
           (goes_on_again old later work.new.board (tick_goes_on old later _ c.tick.ensures.0 c.tick.ensures.1)
           (goes_on_same later work.new.board work.ensures.same work.ensures.goes_on));
+      decided = work.ensures.decided;
       lists = work.ensures.lists;
     }
+
+pub tick-requires-clause-turn : goal.tick-requires-clause-turn
+tick-requires-clause-turn g c =
+    let fine = c.if-may_go_on.true in
+    turn_of_tick c.ticks.board (c.may_go_on.ensures.may fine).1 c.ticks.invariant.decided (c.may_go_on.ensures.fired fine)
 
 pub ticks-smaller : goal.ticks-smaller
 ticks-smaller g c =

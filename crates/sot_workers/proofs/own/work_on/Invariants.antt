@@ -1,4 +1,5 @@
-use Rattle.std.proofs.Common.{◌-◌}
+use Rattle.std.proofs.Common.{◌-◌, length}
+use Rattle.sot_ordered_board.specs.Order.{HaveDecided}
 use Rattle.sot_workers.specs.Instants.{GoesOn}
 use Rattle.sot_workers.specs.Lists.{KeepsLists}
 use Rattle.sot_workers.proofs.own.work_on.Given as goal
@@ -6,6 +7,7 @@ use Rattle.sot_workers.proofs.own.work_on.Given as goal
 abbrev pub invariant-ticks : goal.invariant-ticks
 invariant-ticks g l = record {
   goes_on : GoesOn l.fn.board l.board;
+  decided : HaveDecided l.board.position (length l.board.accepted.program.modules);
   lists : KeepsLists l.board l.away l.lists.items;
 }
 

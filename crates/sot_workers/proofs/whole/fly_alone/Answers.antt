@@ -1,28 +1,26 @@
-use Rattle.std.proofs.Common.{◌≡◌, ◌++◌, refl, ap, ◌∙◌, arith}
-use Rattle.sot_workers.proofs.Effects.{tick_time}
-use Rattle.sot_workers.proofs.Histories.{tick_entry}
-use Rattle.sot_workers.proofs.Ordered.{order_here, order_further, order_ends}
+use Rattle.std.proofs.Common.{◌≡◌, refl, ap, ◌∙◌, arith}
+use Rattle.sot_ordered_board.proofs.OneHistory.{whole_in_order}
+use Rattle.sot_workers.proofs.Going.{goes_on_same, goes_on_again, tick_goes_on}
+use Rattle.sot_workers.proofs.Histories.{goes_here}
 use Rattle.sot_workers.proofs.Remaining.{flown_whole}
+use Rattle.sot_workers.proofs.Turns.{turn_settled}
 use Rattle.sot_workers.proofs.whole.fly_alone.Goals as goal
 
 pub ticks-init : goal.ticks-init
-ticks-init c = record { accepted = refl; plan = refl; order = order_here c.args.board.now }
+ticks-init c = record { accepted = refl; plan = refl; entries = goes_here c.args.board.now.entries }
+
+pub tick-requires-clause-turn : goal.tick-requires-clause-turn
+tick-requires-clause-turn c = turn_settled c.finish_instant.new.board c.finish_instant.ensures.settled
 
 pub ticks-preserved : goal.ticks-preserved
 ticks-preserved c =
+    let start = c.args.board.now in
     let b = c.ticks.board in
     let one = c.finish_instant.new.board in
     let two = c.tick.new.self in
-    let inv = c.ticks.invariant in
-    let did = c.finish_instant.ensures in
-    let e = c.tick.ensures in
-    record {
-      accepted = e.1.accepted ∙ did.same.accepted ∙ inv.accepted;
-      plan = e.1.plan ∙ did.same.plan ∙ inv.plan;
-      order =
-          order_further c.args.board.now b one two e.0 _ _ inv.accepted inv.plan inv.order did.same did.order did.settled c.reveal_invariant.ensures
-          (tick_time one two _ e.0 e.1) e.1.entries (tick_entry one two _ e.0 e.1);
-    }
+    goes_on_again start one two
+    (goes_on_again start b one c.ticks.invariant (goes_on_same b one c.finish_instant.ensures.same c.finish_instant.ensures.goes_on))
+    (tick_goes_on one two _ c.tick.ensures.0 c.tick.ensures.1)
 
 pub returns-clause-flown : goal.returns-clause-flown
 returns-clause-flown c =
@@ -44,11 +42,12 @@ returns-clause-flown c =
 
 pub returns-clause-goes_on : goal.returns-clause-goes_on
 returns-clause-goes_on c =
-    let order = order_ends c.args.board.now c.ticks.board c.finish_instant-2.new.board c.ticks.invariant.accepted c.ticks.invariant.order
-    c.finish_instant-2.ensures.same c.finish_instant-2.ensures.order in
-    (order.before ++ order.last, order.entries)
+    let start = c.args.board.now in
+    let b = c.ticks.board in
+    let last = c.finish_instant-2.new.board in
+    (goes_on_again start b last c.ticks.invariant (goes_on_same b last c.finish_instant-2.ensures.same c.finish_instant-2.ensures.goes_on)).entries
 
 pub returns-clause-order : goal.returns-clause-order
 returns-clause-order c =
-    order_ends c.args.board.now c.ticks.board c.finish_instant-2.new.board c.ticks.invariant.accepted c.ticks.invariant.order c.finish_instant-2.ensures.same
-    c.finish_instant-2.ensures.order
+    let b = c.finish_instant-2.new.board in
+    whole_in_order b.accepted.program b.accepted.cert.jitter b.plan b.entries b.position c.reveal_order.ensures (returns-clause-flown c)

@@ -1,13 +1,9 @@
-use Rattle.std.proofs.Common.{◌≡◌, ◌-◌}
-use Rattle.sot_workers.proofs.Ordered.{InOrder}
+use Rattle.std.proofs.Common.{◌-◌}
+use Rattle.sot_workers.specs.Instants.{GoesOn}
 use Rattle.sot_workers.proofs.whole.fly_alone.Given as goal
 
 abbrev pub invariant-ticks : goal.invariant-ticks
-invariant-ticks l = record {
-  accepted : l.board.accepted ≡ l.fn.board.accepted;
-  plan : l.board.plan ≡ l.fn.board.plan;
-  order : InOrder l.fn.board l.board;
-}
+invariant-ticks l = GoesOn l.fn.board l.board
 
 -- the ticks that are still to come
 abbrev pub decreases-ticks : goal.decreases-ticks

@@ -1,5 +1,5 @@
 use Rattle.std.proofs.Common.{sym, subst, ◌∙◌}
-use Rattle.sot_workers.specs.Flying.{HasNoGuests}
+use Rattle.sot_ordered_board.specs.Crews.{HasNoGuests}
 use Rattle.sot_world.specs.NodeSorts.{IsCodedNode, IsExternalNode}
 use Rattle.sot_test_flights.proofs.tests.views.beside.Goals as goal
 
