@@ -1,6 +1,7 @@
 -- What each way through a turn makes of a shift.
 use Rattle.std.proofs.Common.{◌≡◌, ◌↔◌, inl, inr, ℕ, ℤ, true, false, List, [], ◌∷◌, ◌++◌, length, take, Option, None, Some, refl, sym, ap, ap₂, ◌∙◌, subst}
 use Rattle.std.proofs.Common.{arith}
+use Rattle.std.specs.Prelude.{vec_capacity}
 use Rattle.std.proofs.lemmas.List.{append_assoc, append-nil, length-append}
 use Rattle.std.proofs.lemmas.Option.{same_Some}
 use Rattle.sot_code.specs.Recorded.{in_slots}
@@ -23,7 +24,8 @@ use Rattle.sot_fly_worker.specs.declared.shift.Shift.{Shift}
 use Rattle.sot_fly_worker.specs.Askings.{Asking, asking, AsksOneMore}
 use Rattle.sot_fly_worker.specs.Answers.{FitsFiring}
 use Rattle.sot_fly_worker.specs.Shifts.{EachGuest, IsOnShift}
-use Rattle.sot_fly_worker.specs.Holds.{IsDueView, IsSeen, HasFired}
+use Rattle.sot_fly_worker.specs.Rooms.{HasRoomFor}
+use Rattle.sot_fly_worker.specs.Holds.{IsDueView, IsSeen, HasFired, HasRoomIn}
 use Rattle.sot_fly_worker.specs.Turned.{IsQuiet, AnswersOn}
 use Rattle.sot_fly_worker.specs.Turns.{TakesTurn}
 use Rattle.sot_fly_worker.proofs.Histories.{same_drafts}
@@ -55,6 +57,12 @@ pub seen_program :
     → (seen : IsSeen ground known n v) × (p ≡ seen.board.accepted.program)
 seen_program ground known n v b p due is same program = (record { board = b; due = due; ground_is = is; entries = sym same }, program)
 
+-- room that is known for one ground
+pub room_here : (ground : Option (Admitted × Plan)) (a : Admitted) (f : Plan) (n room : ℕ) → ground ≡ Some (a, f)
+    → HasRoomFor a.program.nodes f.horizon n room → HasRoomIn ground n room
+room_here ground a f n room known has b g is =
+    subst (λ (x : Admitted × Plan). HasRoomFor x.0.program.nodes x.1.horizon n room) (same_Some (a, f) (b, g) (sym known ∙ is)) has
+
 pub not_yet : {P : Type 0} → false ≡ true → P
 not_yet both = absurd cc
 
@@ -70,10 +78,10 @@ module _ {C : Type 0} (asked : C → Option (List Asking)) (began old new : Shif
   -- nothing was done
   pub quiet_turn :
       IsQuiet old.node (pass_seen old.pass) (pass_seen new.pass) → pass_added new.pass ≡ pass_added old.pass → new.drafts.items ≡ old.drafts.items
-      → new.guest ≡ old.guest
+      → vec_capacity new.drafts ≡ vec_capacity old.drafts → new.guest ≡ old.guest
       → (new.finished ≡ true → FlownBy was.at_work.accepted.program was.at_work.accepted.cert.jitter was.at_work.plan (pass_seen new.pass))
       → IsOnShift asked began new
-  quiet_turn still nothing drafts guest finished =
+  quiet_turn still nothing drafts room guest finished =
       let a = was.at_work.accepted in
       let f = was.at_work.plan in
       one_turn_more asked began old new was (record {
@@ -81,6 +89,7 @@ module _ {C : Type 0} (asked : C → Option (List Asking)) (began old new : Shif
         form = form;
         lock = lock;
         ground = ground;
+        room = room;
         drafts = drafts ∙ was.at_work.drafts ∙ sym (ap (drafts_of old.node) still.1 ∙ same_drafts old.node (pass_seen old.pass) still.0 still.2);
         own = [];
         added = nothing ∙ sym (append-nil (pass_added old.pass));
@@ -95,8 +104,8 @@ module _ {C : Type 0} (asked : C → Option (List Asking)) (began old new : Shif
   pub unasked_turn :
       (known : List Logged) (draft : List (Option ℤ)) → drafts_of old.node known ≡ old.drafts.items
       → HasFired old.node draft known (pass_seen new.pass) (pass_added old.pass) (pass_added new.pass)
-      → new.drafts.items ≡ drafts_of old.node (pass_seen new.pass) → old.guest ≡ None → new.guest ≡ old.guest → new.finished ≡ false → IsOnShift asked began new
-  unasked_turn known draft same fired drafts none guest unfinished =
+      → new.drafts.items ≡ drafts_of old.node (pass_seen new.pass) → vec_capacity new.drafts ≡ vec_capacity old.drafts → old.guest ≡ None → new.guest ≡ old.guest → new.finished ≡ false → IsOnShift asked began new
+  unasked_turn known draft same fired drafts room none guest unfinished =
       let a = was.at_work.accepted in
       let f = was.at_work.plan in
       let R = AnswersOn a.program a.cert.jitter f old.node (pass_seen old.pass) (pass_seen new.pass) in
@@ -106,6 +115,7 @@ module _ {C : Type 0} (asked : C → Option (List Asking)) (began old new : Shif
         lock = lock;
         ground = ground;
         drafts = drafts;
+        room = room;
         own = FireAt fired.time old.node draft fired.enabled ∷ [];
         added = fired.adds;
         only_firings = (refl, tt);
@@ -122,10 +132,10 @@ module _ {C : Type 0} (asked : C → Option (List Asking)) (began old new : Shif
       → IsSeen (pass_ground old.pass) known old.node v
       → ((a : Admitted) (f : Plan) → pass_ground old.pass ≡ Some (a, f)
       → HasFired old.node (in_slots (take (slot_count a.program old.node) draft)) known (pass_seen new.pass) (pass_added old.pass) (pass_added new.pass))
-      → new.drafts.items ≡ drafts_of old.node (pass_seen new.pass) → old.guest ≡ Some before → new.guest ≡ Some after
+      → new.drafts.items ≡ drafts_of old.node (pass_seen new.pass) → vec_capacity new.drafts ≡ vec_capacity old.drafts → old.guest ≡ Some before → new.guest ≡ Some after
       → AsksOneMore (asked before) (asked after) (asking (viewed_numbers v) draft)
       → new.finished ≡ false → IsOnShift asked began new
-  asked_turn known v draft before after still seen fires drafts one two tells unfinished =
+  asked_turn known v draft before after still seen fires drafts room one two tells unfinished =
       let a = was.at_work.accepted in
       let f = was.at_work.plan in
       let n = old.node in
@@ -154,6 +164,7 @@ module _ {C : Type 0} (asked : C → Option (List Asking)) (began old new : Shif
         lock = lock;
         ground = ground;
         drafts = drafts;
+        room = room;
         own = FireAt fired.time old.node slots fired.enabled ∷ [];
         added = fired.adds;
         only_firings = (refl, tt);

@@ -25,6 +25,7 @@ use Rattle.sot_board.proofs.Entries.{drafts_append}
 use Rattle.sot_board.proofs.ViewLaws.{views_stay}
 use Rattle.sot_fly_worker.specs.Askings.{asking}
 use Rattle.sot_fly_worker.specs.Answers.{FitsFiring}
+use Rattle.sot_fly_worker.specs.Rooms.{HasRoomFor}
 use Rattle.sot_fly_worker.specs.Holds.{HasNode, IsDueView, IsSeen, Appends, HasFired}
 
 -- a list without elements
@@ -61,6 +62,23 @@ one_more n time draft enabled es =
 
 pub noted : (old new : Standing) (n : ℕ) (draft : List (Option ℤ)) → Appends old new n draft → drafts_of n new.entries ≡ drafts_of n old.entries ++ draft ∷ []
 noted old new n draft added = ap (drafts_of n) added.entries ∙ one_more n added.time draft added.enabled old.entries
+
+-- what its draft is noted with: its node, its place behind the drafts before, and room
+pub noted_there : (old new : Standing) (n : ℕ) (draft : List (Option ℤ)) → Appends old new n draft → n < length old.accepted.program.nodes
+    → n < length new.accepted.program.nodes
+noted_there old new n draft added lt = subst (λ a. n < length a.program.nodes) (sym added.accepted) lt
+
+pub noted_last :
+    (old new : Standing) (n : ℕ) (draft : List (Option ℤ)) (before : List (List (Option ℤ))) → Appends old new n draft → drafts_of n old.entries ≡ before
+    → drafts_of n new.entries ≡ before ++ draft ∷ []
+noted_last old new n draft before added was = noted old new n draft added ∙ ap (λ l. l ++ draft ∷ []) was
+
+pub noted_room :
+    (old new : Standing) (n : ℕ) (draft : List (Option ℤ)) (room : ℕ) → Appends old new n draft
+    → HasRoomFor old.accepted.program.nodes old.plan.horizon n room → HasRoomFor new.accepted.program.nodes new.plan.horizon n room
+noted_room old new n draft room added has =
+    subst (λ a. HasRoomFor a.program.nodes new.plan.horizon n room) (sym added.accepted)
+    (subst (λ f. HasRoomFor old.accepted.program.nodes f.horizon n room) (sym added.plan) has)
 
 -- a firing at a board which has gone on, without a firing of the node, from what was known
 pub has_fired :

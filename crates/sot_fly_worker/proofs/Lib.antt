@@ -8,3 +8,5 @@ pub mod Firing
 pub mod Arms
 -- code that runs on views
 pub mod Running
+-- a node fires at most as often as it is due
+pub mod Rooms

@@ -12,6 +12,8 @@ use Rattle.sot_board.specs.Versions.{drafts_of}
 use Rattle.sot_board.proofs.Entries.{drafts_append}
 use Rattle.sot_fly_worker.specs.declared.shift.Shift.{Shift}
 use Rattle.sot_fly_worker.specs.Askings.{Asking}
+use Rattle.std.specs.Prelude.{vec_capacity}
+use Rattle.sot_fly_worker.specs.Rooms.{HasRoomFor}
 use Rattle.sot_fly_worker.specs.Answers.{FitsFiring, HasAnswered, Answered}
 use Rattle.sot_fly_worker.specs.Shifts.{HasItsGuest, IsReady, EachGuest, AreFirings, IsOnShift}
 use Rattle.sot_fly_worker.specs.Turned.{AnswersOnce, AnswersOn, IsTurned}
@@ -104,6 +106,8 @@ one_turn_more asked began old new was turned =
             (still_guest (AnswersOn a.program a.cert.jitter f old.node (pass_seen old.pass) (pass_seen new.pass)) asked f old.node old.guest new.guest
             turned.guest was.at_work.guest);
         drafts = turned.drafts ∙ ap (λ n. drafts_of n (pass_seen new.pass)) (sym turned.node);
+        room = subst (λ n. HasRoomFor a.program.nodes f.horizon n (vec_capacity new.drafts)) (sym turned.node)
+            (subst (HasRoomFor a.program.nodes f.horizon old.node) (sym turned.room) was.at_work.room);
         form = form_along a.program old.node new.node old.form new.form (sym turned.node) turned.form was.at_work.form;
       };
       node = turned.node ∙ was.node;

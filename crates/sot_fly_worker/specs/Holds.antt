@@ -9,6 +9,7 @@ use Rattle.sot_board.specs.declared.view.View.{View}
 use Rattle.sot_board.specs.Versions.{drafts_of}
 use Rattle.sot_board.specs.Standing.{Standing, IsStanding}
 use Rattle.sot_board.specs.Views.{IsView}
+use Rattle.sot_fly_worker.specs.Rooms.{HasRoomFor}
 use Rattle.sot_fly_worker.specs.declared.sight.Sight.{Sight}
 use Rattle.sot_fly_worker.specs.declared.sight.Sight.TheVariants.{Ended, Idle, Stated, Runs, Asks}
 
@@ -16,6 +17,11 @@ use Rattle.sot_fly_worker.specs.declared.sight.Sight.TheVariants.{Ended, Idle, S
 abbrev pub HasNode : Option (Admitted × Plan) → ℕ → Type 0
 HasNode ground n =
     (a : Admitted) × (f : Plan) × (ground ≡ Some (a, f)) × (n < length a.program.nodes)
+
+-- where the ground is known, there is room for the drafts of this node of its program
+abbrev pub HasRoomIn : Option (Admitted × Plan) → ℕ → ℕ → Type 0
+HasRoomIn ground n room =
+    (a : Admitted) (f : Plan) → ground ≡ Some (a, f) → HasRoomFor a.program.nodes f.horizon n room
 
 -- a board as it stood when the view was taken, with the node left to fire
 pub record IsDueView (b : Standing) (n : ℕ) (v : View) : Type 0 where
@@ -47,6 +53,13 @@ pub record Appends (old new : Standing) (n : ℕ) (draft : List (Option ℤ)) : 
   pub entries : new.entries ≡ old.entries ++ FireAt time n draft enabled ∷ []
   pub accepted : new.accepted ≡ old.accepted
   pub plan : new.plan ≡ old.plan
+
+-- the board went on by one firing of the node, whose draft was noted behind those of its firings
+-- before
+pub record Notes (old new : Standing) (n : ℕ) (before after : List (List (Option ℤ))) : Type 0 where
+  pub draft : List (Option ℤ)
+  pub appends : Appends old new n draft
+  pub noted : after ≡ before ++ draft ∷ []
 
 -- what is seen has gone on by entries that are no firings of the node, and then by its firing with
 -- this draft, which is all that was added by the node's owner

@@ -6,6 +6,8 @@ pub mod Shifts
 pub mod Turns
 -- laws on histories that go on
 pub mod Laws
+-- room for the drafts of a node
+pub mod Rooms
 -- what the functions inside the crate tell each other
 pub mod Holds
 pub mod Turned

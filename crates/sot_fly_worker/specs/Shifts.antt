@@ -1,6 +1,6 @@
 -- What a shift stands on, and what became of one that began.
 use Rattle.std.specs.Prelude.{ℕ, ◌<◌, ◌≡◌, ◌⊎◌, true, false, List, [], ◌∷◌, ◌++◌, length, Option}
-use Rattle.std.specs.Prelude.{None, Some}
+use Rattle.std.specs.Prelude.{None, Some, vec_capacity}
 use Rattle.atomic_table.specs.Seated.{TableId}
 use Rattle.sot_lists.specs.Places.{At}
 use Rattle.sot_eval_flat.specs.FlatForm.{IsFormOf}
@@ -11,6 +11,7 @@ use Rattle.sot_world.specs.HistoryEntry.{Logged, InputAt, FireAt, DecideAt, Tick
 use Rattle.sot_board.specs.Flown.{FlownBy}
 use Rattle.sot_board.specs.Versions.{drafts_of}
 use Rattle.sot_fly_worker.specs.declared.shift.Shift.{Shift}
+use Rattle.sot_fly_worker.specs.Rooms.{HasRoomFor}
 use Rattle.sot_fly_worker.specs.Askings.{Asking}
 use Rattle.sot_fly_worker.specs.Answers.{Answered}
 
@@ -20,8 +21,8 @@ HasItsGuest f n None = (i : ℕ) → At f.crews n (Guest i) → ⊥
 HasItsGuest f n (Some guest) = (i : ℕ) × At f.crews n (Guest i)
 
 -- A shift at work: its pass knows a program with its certificate and a flight, of which its node
--- and its guest are, its drafts are those of the node's firings in what the pass has seen, and the
--- flat form, where it has one, is that of its node.
+-- and its guest are, its drafts are those of the node's firings in what the pass has seen, their
+-- list has room for those of all firings, and the flat form, where it has one, is that of its node.
 pub record IsAtWork {C : Type 0} (shift : Shift C) : Type 0 where
   pub accepted : Admitted
   pub plan : Plan
@@ -29,6 +30,7 @@ pub record IsAtWork {C : Type 0} (shift : Shift C) : Type 0 where
   pub there : shift.node < length accepted.program.nodes
   pub guest : HasItsGuest plan shift.node shift.guest
   pub drafts : shift.drafts.items ≡ drafts_of shift.node (pass_seen shift.pass)
+  pub room : HasRoomFor accepted.program.nodes plan.horizon shift.node (vec_capacity shift.drafts)
   pub form : IsFormOf accepted.program shift.node shift.form
 
 -- A shift of this lock that may begin: its node has not fired in what its pass has seen.

@@ -1,5 +1,6 @@
 -- What one turn changes of a shift.
 use Rattle.std.specs.Prelude.{ℕ, suc, ◌≡◌, ◌⊎◌, true, List, [], ◌++◌, length, Option}
+use Rattle.std.specs.Prelude.{vec_capacity}
 use Rattle.sot_lang.specs.Tables.{Tables}
 use Rattle.sot_world.specs.HistoryEntry.{Logged}
 use Rattle.sot_flight.specs.Plans.{Plan}
@@ -40,6 +41,7 @@ pub record IsTurned {C : Type 0} (asked : C → Option (List Asking)) (a : Admit
   pub lock : pass_lock new.pass ≡ pass_lock old.pass
   pub ground : pass_ground new.pass ≡ pass_ground old.pass
   pub drafts : new.drafts.items ≡ drafts_of old.node (pass_seen new.pass)
+  pub room : vec_capacity new.drafts ≡ vec_capacity old.drafts
   pub own : List Logged
   pub added : pass_added new.pass ≡ pass_added old.pass ++ own
   pub only_firings : AreFirings old.node own

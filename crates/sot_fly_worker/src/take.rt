@@ -1,6 +1,6 @@
-//! A turn that is taken, and a draft that is noted.
+//! A turn that is taken.
 
-ghost use Rattle.std.specs.Prelude.{◌≡◌, ◌++◌, ◌∷◌, [], Some};
+ghost use Rattle.std.specs.Prelude.{◌≡◌, Some};
 ghost use Rattle.sot_turn.specs.Prefixes.{IsPrefix};
 ghost use Rattle.sot_turn.specs.Passes.{lock_of, pass_lock, pass_ground, pass_seen, pass_added};
 ghost use Rattle.sot_turn.specs.Passes.{held_lock, held_ground, held_seen, held_added, held_value};
@@ -91,14 +91,4 @@ pub(crate) fn take_next<'t, 'a, R: Wait>(
         bells.park_next(rt, node);
     }
     unreachable!()
-}
-
-/// Notes a draft. Where the list has no room, it waits without end.
-pub(crate) fn append<R: Wait>(rt: &R, drafts: &mut Vec<Draft>, draft: Draft)
-    ensures { drafts.new.items ≡ drafts.old.items ++ draft ∷ [] }
-{
-    if drafts.len() == drafts.capacity() {
-        stop(rt);
-    }
-    drafts.push_reserved(draft);
 }

@@ -15,3 +15,5 @@ pub mod Going
 pub mod Landing
 pub mod Weights
 pub mod Noted
+-- room for drafts
+pub mod Rooms

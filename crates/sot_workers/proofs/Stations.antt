@@ -1,7 +1,7 @@
 -- The workers of the nodes that no guest flies, stationed and relieved, and their lists.
 use Rattle.std.proofs.Common.{◌≡◌, ℕ, zero, suc, ◌<◌, ◌⊎◌, inl, inr, ⊎_elim, Bool, true, false, List, [], ◌∷◌, ◌++◌, length, Option, None, Some}
 use Rattle.std.proofs.Common.{refl, sym, ap, ◌∙◌, subst, arith, append_assoc, length-append}
-use Rattle.std.specs.Prelude.{slice_index_or}
+use Rattle.std.specs.Prelude.{slice_index_or, vec_capacity}
 use Rattle.std.proofs.lemmas.Bool.{cases_eq}
 use Rattle.std.proofs.lemmas.Option.{same_Some}
 use Rattle.atomic_table.specs.Seated.{TableId}
@@ -16,6 +16,7 @@ use Rattle.sot_board.specs.Flown.{FlownBy}
 use Rattle.sot_board.specs.Versions.{drafts_of}
 use Rattle.sot_fly_worker.specs.declared.shift.Shift.{Shift}
 use Rattle.sot_fly_worker.specs.Askings.{Asking}
+use Rattle.sot_fly_worker.specs.Rooms.{HasRoomFor}
 use Rattle.sot_fly_worker.specs.Shifts.{HasItsGuest, IsOnShift}
 use Rattle.sot_workers.specs.declared.lists.NodeList.{NodeList}
 use Rattle.sot_workers.specs.declared.place.Station.{Station}
@@ -35,9 +36,10 @@ module _ {C : Type 0} where
   pub node_shift :
       (lock : TableId) (a : Admitted) (f : Plan) (n : ℕ) (shift : Shift C) → pass_lock shift.pass ≡ lock → pass_ground shift.pass ≡ Some (a, f)
       → shift.node < length a.program.nodes → HasItsGuest f shift.node shift.guest
-      → shift.drafts.items ≡ [] → pass_seen shift.pass ≡ [] → IsFormOf a.program shift.node shift.form → shift.finished ≡ false → shift.node ≡ n
+      → shift.drafts.items ≡ [] → pass_seen shift.pass ≡ [] → HasRoomFor a.program.nodes f.horizon shift.node (vec_capacity shift.drafts)
+      → IsFormOf a.program shift.node shift.form → shift.finished ≡ false → shift.node ≡ n
       → IsNodeShift lock a f n shift
-  node_shift lock a f n shift of ground there guest none seen form begins node = record {
+  node_shift lock a f n shift of ground there guest none seen room form begins node = record {
     ready = record {
       at_work =
           record {
@@ -47,6 +49,7 @@ module _ {C : Type 0} where
             there = there;
             guest = guest;
             drafts = none ∙ ap (drafts_of shift.node) (sym seen);
+            room = room;
             form = form;
           };
       lock_is = of;

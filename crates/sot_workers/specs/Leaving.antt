@@ -7,18 +7,21 @@ use Rattle.sot_turn.specs.Passes.{pass_lock, pass_ground, pass_seen}
 use Rattle.sot_fly_worker.specs.Askings.{Asking}
 use Rattle.sot_workers.specs.declared.crewed.Leaving.{Leaving}
 use Rattle.sot_workers.specs.declared.crewed.Landed.{Landed}
+use Rattle.sot_workers.specs.Flying.{IsFrom}
 use Rattle.sot_workers.specs.Forms.{AreFormsOf}
+use Rattle.sot_workers.specs.Lists.{HaveRoomIn}
 use Rattle.sot_workers.specs.Rooms.{HasRoom}
 use Rattle.sot_workers.specs.Sent.{AreBack}
 
 -- a pass of this lock that knows the flight and a program of which it is, and has seen no entry;
--- room for the guests, and flat forms of the program's bodies
+-- room for the guests and for all drafts, and flat forms of the program's bodies
 pub record IsLeaving {C : Type 0} (table : TableId) (f : Plan) (leaving : Leaving C) : Type 0 where
   pub lock : pass_lock leaving.pass ≡ table
   pub ground : (a : Admitted) × (pass_ground leaving.pass ≡ Some (a, f))
       × (length f.crews ≡ length a.program.nodes)
   pub seen : pass_seen leaving.pass ≡ []
   pub room : HasRoom (length f.crews) (vec_len leaving.room.guests) leaving.room
+  pub lists : HaveRoomIn (pass_ground leaving.pass) (IsFrom 0) leaving.room.lists.items
   pub forms : (a : Admitted) → pass_ground leaving.pass ≡ Some (a, f)
       → AreFormsOf a.program leaving.room.forms.items
 

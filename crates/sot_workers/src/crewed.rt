@@ -11,9 +11,9 @@ ghost use Rattle.sot_turn.specs.Passes.{lock_of, pass_lock, pass_ground, pass_se
 ghost use Rattle.sot_board.specs.Flown.{FlownBy};
 ghost use Rattle.sot_ordered_board.specs.Order.{IsInOrder, FliesInOrder};
 ghost use Rattle.sot_fly_worker.specs.Answers.{Answered};
-ghost use Rattle.sot_workers.specs.Flying.{IsUnnamed};
+ghost use Rattle.sot_workers.specs.Flying.{IsFrom, IsUnnamed};
 ghost use Rattle.sot_workers.specs.Forms.{AreFormsOf};
-ghost use Rattle.sot_workers.specs.Lists.{AreLists};
+ghost use Rattle.sot_workers.specs.Lists.{AreLists, HaveRoomIn};
 ghost use Rattle.sot_workers.specs.Pairs.{EachFrom};
 ghost use Rattle.sot_workers.specs.Rooms.{HasRoom};
 ghost use Rattle.sot_workers.specs.Leaving.{IsLeaving, HasLanded};
@@ -174,6 +174,7 @@ fn fly_behind<'a, C: Controller + Send, R: Threads + Wait + Sync>(
         × (length flight.now.crews ≡ length a.program.nodes) }
     requires seen { pass_seen pass ≡ [] }
     requires room { HasRoom (length flight.now.crews) (vec_len room.guests) room }
+    requires lists { HaveRoomIn (pass_ground pass) (IsFrom 0) room.lists.items }
     requires forms { (a : Admitted) → pass_ground pass ≡ Some (a, flight.now)
         → AreFormsOf a.program room.forms.items }
     requires back { (guests.old.items ≡ []) × (vec_len room.guests ≤ vec_capacity guests.old) }

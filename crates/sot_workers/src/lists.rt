@@ -1,15 +1,13 @@
 //! Lists of drafts, one a node.
 
-ghost use Rattle.std.specs.Prelude.{◌≡◌, ℕ, ◌++◌, ◌∷◌, [], ◌<◌, ◌≤◌, length, IfOk};
+ghost use Rattle.std.specs.Prelude.{ℕ, ◌<◌, ◌≤◌, length, IfOk};
 ghost use Rattle.sot_lists.specs.Places.{At};
 ghost use Rattle.sot_lang.specs.declared.tables.NodeInfo.{NodeInfo};
-ghost use Rattle.sot_workers.specs.Lists.{AreEmpty};
+ghost use Rattle.sot_workers.specs.Lists.{AreEmpty, HaveRoom};
 
-use sot_calendar::firings;
-use sot_fly_worker::stop;
+use crate::rule::due_times;
 use sot_lang::{Draft, NodeInfo, Typed};
 use std::alloc::{AllocError, Global};
-use std::sync::Wait;
 
 /// A node, with the drafts of its firings in order.
 #[derive(Drop)]
@@ -23,12 +21,14 @@ fn lists_for(alloc: Global, nodes: &[NodeInfo], horizon: u32) -> Result<Vec<Node
         → (node.offset < node.period) × (node.period ≤ 1000) }
     requires few { length nodes.now ≤ 300 }
     requires horizon { horizon ≤ 100000 }
-    ensures { IfOk result (λ lists. AreEmpty (length nodes.now) lists.items) }
+    ensures lists { IfOk result (λ lists. AreEmpty (length nodes.now) lists.items) }
+    ensures room { IfOk result (λ lists.
+        HaveRoom nodes.now horizon (λ _. Unit {0}) lists.items) }
 {
     let mut lists = Vec::with_capacity(alloc, nodes.len())?;
     for node in 0..nodes.len() {
         let info = &nodes[node];
-        let room = firings(info.period, info.offset, horizon);
+        let room = due_times(info.period, info.offset, horizon);
         let drafts = Vec::with_capacity(alloc, room as usize)?;
         lists.push_reserved(NodeList {
             node: node as u32,
@@ -41,21 +41,9 @@ fn lists_for(alloc: Global, nodes: &[NodeInfo], horizon: u32) -> Result<Vec<Node
 /// An empty list for each node, in declared order, with room for all its firings up to the horizon.
 pub(crate) fn no_lists(alloc: Global, p: &Typed, horizon: u32) -> Result<Vec<NodeList>, AllocError>
     requires { horizon ≤ 100000 }
-    ensures { IfOk result (λ lists. AreEmpty (length p.now.nodes) lists.items) }
+    ensures lists { IfOk result (λ lists. AreEmpty (length p.now.nodes) lists.items) }
+    ensures room { IfOk result (λ lists.
+        HaveRoom p.now.nodes horizon (λ _. Unit {0}) lists.items) }
 {
     lists_for(alloc, &p.nodes, horizon)
-}
-
-impl NodeList {
-    /// Takes in one draft more. Its room was reserved: where there is none, it waits without end.
-    pub(crate) fn append<R: Wait>(&mut self, rt: &R, draft: Draft)
-        ensures node { self.new.node ≡ self.old.node }
-        ensures drafts { self.new.drafts.items ≡ self.old.drafts.items ++ draft ∷ [] }
-    {
-        if self.drafts.len() < self.drafts.capacity() {
-            self.drafts.push_reserved(draft);
-        } else {
-            stop(rt);
-        }
-    }
 }

@@ -11,12 +11,12 @@ ghost use Rattle.sot_workers.specs.Flying.{IsMine};
 ghost use Rattle.sot_ordered_board.specs.Crews.{IsOwn};
 ghost use Rattle.sot_ordered_board.specs.Order.{HaveDecided, HaveFired, HasTurn};
 ghost use Rattle.sot_workers.specs.Instants.{IsSameInstant, GoesOn};
-ghost use Rattle.sot_workers.specs.Lists.{AreMine, KeepsLists};
+ghost use Rattle.sot_workers.specs.Lists.{AreMine, KeepsLists, KeepsRoom};
 
 use crate::instant::{decide_all, fire, take_inputs};
 use crate::lists::NodeList;
 use sot_flight::Flight;
-use sot_fly_worker::{Bells, stop};
+use sot_fly_worker::{Bells, note_draft, stop};
 use sot_ordered_board::OrderedBoard;
 use std::sync::Wait;
 
@@ -41,14 +41,9 @@ fn is_mine(flight: &Flight, away: &[bool], node: u32) -> bool
 }
 
 // A node that the caller fires does so, and its list gets the draft.
-fn fire_own<R: Wait>(
-    rt: &R,
-    board: &mut OrderedBoard<'_>,
-    away: &[bool],
-    lists: &mut Vec<NodeList>,
-    node: u32,
-)
+fn fire_own(board: &mut OrderedBoard<'_>, away: &[bool], lists: &mut Vec<NodeList>, node: u32)
     requires lists { KeepsLists board.old away.now lists.old.items }
+    requires room { KeepsRoom board.old away.now lists.old.items }
     requires mine { IsMine board.old.plan away.now node }
     requires there { node < length board.old.accepted.program.nodes }
     requires left { is_left board.old.position.at node ≡ true }
@@ -59,21 +54,22 @@ fn fire_own<R: Wait>(
     ensures behind { HasTurn board.new.accepted.program board.new.plan
         board.new.position (node + 1) }
     ensures lists { KeepsLists board.new away.now lists.new.items }
+    ensures room { KeepsRoom board.new away.now lists.new.items }
 {
     let receipt = fire(board, node);
-    lists[node as usize].append(rt, receipt.draft);
+    note_draft(board, node, &mut lists[node as usize].drafts, receipt.draft);
 }
 
 // A node that the caller fires does so if it is left. It answers whether the nodes behind it may
 // fire: no worker in a thread is to fire before them.
-fn fire_if_mine<R: Wait>(
-    rt: &R,
+fn fire_if_mine(
     board: &mut OrderedBoard<'_>,
     away: &[bool],
     lists: &mut Vec<NodeList>,
     node: u32,
 ) -> bool
     requires lists { KeepsLists board.old away.now lists.old.items }
+    requires room { KeepsRoom board.old away.now lists.old.items }
     requires there { node < length board.old.accepted.program.nodes }
     requires turn { HasTurn board.old.accepted.program board.old.plan board.old.position node }
     ensures same { IsSameInstant board.old board.new }
@@ -82,6 +78,7 @@ fn fire_if_mine<R: Wait>(
     ensures behind { result ≡ true → HasTurn board.new.accepted.program board.new.plan
         board.new.position (node + 1) }
     ensures lists { KeepsLists board.new away.now lists.new.items }
+    ensures room { KeepsRoom board.new away.now lists.new.items }
 {
     board.reveal_invariant();
     if !board.left(node) {
@@ -90,14 +87,13 @@ fn fire_if_mine<R: Wait>(
     if !is_mine(board.flight(), away, node) {
         return !is_away(away, node);
     }
-    fire_own(rt, board, away, lists, node);
+    fire_own(board, away, lists, node);
     true
 }
 
 // A node that the caller fires does so if it is left and the nodes before it let it; else nothing
 // is done. It answers whether the nodes behind it may fire.
-fn fire_in_order<R: Wait>(
-    rt: &R,
+fn fire_in_order(
     board: &mut OrderedBoard<'_>,
     away: &[bool],
     lists: &mut Vec<NodeList>,
@@ -105,6 +101,7 @@ fn fire_in_order<R: Wait>(
     may: bool,
 ) -> bool
     requires lists { KeepsLists board.old away.now lists.old.items }
+    requires room { KeepsRoom board.old away.now lists.old.items }
     requires there { node < length board.old.accepted.program.nodes }
     requires turn { may ≡ true → HasTurn board.old.accepted.program board.old.plan
         board.old.position node }
@@ -114,52 +111,47 @@ fn fire_in_order<R: Wait>(
     ensures behind { result ≡ true → HasTurn board.new.accepted.program board.new.plan
         board.new.position (node + 1) }
     ensures lists { KeepsLists board.new away.now lists.new.items }
+    ensures room { KeepsRoom board.new away.now lists.new.items }
 {
     if !may {
         return false;
     }
-    fire_if_mine(rt, board, away, lists, node)
+    fire_if_mine(board, away, lists, node)
 }
 
 // The nodes that the caller fires and that are left do so, in declared order, up to one that a
 // worker in a thread is to fire.
-fn fire_all_mine<R: Wait>(
-    rt: &R,
-    board: &mut OrderedBoard<'_>,
-    away: &[bool],
-    lists: &mut Vec<NodeList>,
-)
+fn fire_all_mine(board: &mut OrderedBoard<'_>, away: &[bool], lists: &mut Vec<NodeList>)
     requires lists { KeepsLists board.old away.now lists.old.items }
+    requires room { KeepsRoom board.old away.now lists.old.items }
     requires turn { HasTurn board.old.accepted.program board.old.plan board.old.position 0 }
     ensures same { IsSameInstant board.old board.new }
     ensures goes_on { IsPrefix board.old.entries board.new.entries }
     ensures left_dm { board.new.position.at.left_dm ≡ board.old.position.at.left_dm }
     ensures lists { KeepsLists board.new away.now lists.new.items }
+    ensures room { KeepsRoom board.new away.now lists.new.items }
 {
     let count = board.typed().nodes.len() as u32;
     let mut may = true;
     for node in 0..count {
-        may = fire_in_order(rt, board, away, lists, node, may);
+        may = fire_in_order(board, away, lists, node, may);
     }
 }
 
 // All that the caller does in an instant: the inputs, then the decisions, then the firings.
-fn work_instant<R: Wait>(
-    rt: &R,
-    board: &mut OrderedBoard<'_>,
-    away: &[bool],
-    lists: &mut Vec<NodeList>,
-)
+fn work_instant(board: &mut OrderedBoard<'_>, away: &[bool], lists: &mut Vec<NodeList>)
     requires lists { KeepsLists board.old away.now lists.old.items }
+    requires room { KeepsRoom board.old away.now lists.old.items }
     ensures same { IsSameInstant board.old board.new }
     ensures goes_on { IsPrefix board.old.entries board.new.entries }
     ensures decided { HaveDecided board.new.position
         (length board.new.accepted.program.modules) }
     ensures lists { KeepsLists board.new away.now lists.new.items }
+    ensures room { KeepsRoom board.new away.now lists.new.items }
 {
     take_inputs(board);
     decide_all(board);
-    fire_all_mine(rt, board, away, lists);
+    fire_all_mine(board, away, lists);
 }
 
 // Whether no tick has to wait for a node: it is not left, or a guest flies it and was asked for
@@ -191,22 +183,23 @@ fn may_go_on(board: &OrderedBoard<'_>, bells: &Bells) -> bool
 
 /// All that the caller does until it has to wait for a worker: the instant, and the tick wherever
 /// it may come, and so on. Before a tick comes, each guest whose node is left is asked.
-pub(crate) fn work_on<R: Wait>(
-    rt: &R,
+pub(crate) fn work_on(
     board: &mut OrderedBoard<'_>,
     bells: &Bells,
     away: &[bool],
     lists: &mut Vec<NodeList>,
 )
     requires lists { KeepsLists board.old away.now lists.old.items }
+    requires room { KeepsRoom board.old away.now lists.old.items }
     ensures goes_on { GoesOn board.old board.new }
     ensures lists { KeepsLists board.new away.now lists.new.items }
+    ensures room { KeepsRoom board.new away.now lists.new.items }
 {
     let horizon = board.flight().horizon();
-    work_instant(rt, board, away, lists);
+    work_instant(board, away, lists);
     'ticks: while board.time() < horizon && may_go_on(board, bells) {
         board.tick();
-        work_instant(rt, board, away, lists);
+        work_instant(board, away, lists);
     }
 }
 

@@ -2,7 +2,7 @@
 
 ghost use Rattle.std.specs.Prelude.{◌≡◌, ◌≤◌, [], length, vec_len, vec_capacity, IfOk};
 ghost use Rattle.sot_workers.specs.Forms.{AreFormsOf};
-ghost use Rattle.sot_workers.specs.Lists.{AreEmpty};
+ghost use Rattle.sot_workers.specs.Lists.{AreEmpty, HaveRoom};
 ghost use Rattle.sot_workers.specs.Rooms.{HasRoom};
 ghost use Rattle.sot_workers.specs.Threads.{is_tried, AreNoted};
 
@@ -45,6 +45,8 @@ pub(crate) fn room_for<'a, C: Controller>(
     requires crews { length flight.now.crews ≡ length p.now.nodes }
     requires horizon { flight.now.horizon ≤ 100000 }
     ensures room { IfOk result (λ room. HasRoom (length p.now.nodes) count room) }
+    ensures drafts { IfOk result (λ room.
+        HaveRoom p.now.nodes flight.now.horizon (λ _. Unit {0}) room.lists.items) }
     ensures guests { IfOk result (λ room. (room.guests.items ≡ [])
         × (count ≤ vec_capacity room.guests)) }
     ensures forms { IfOk result (λ room. AreFormsOf p.now room.forms.items) }

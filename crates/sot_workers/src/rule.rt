@@ -68,14 +68,14 @@ fn has_long_body(node: &NodeInfo) -> bool
     }
 }
 
-// How often it is due up to and including the horizon.
+/// How often it is due up to and including the horizon.
 #[tactic(auto, using(sot_flight::proofs::DueCounts::due_count_is))]
-fn due_times(period: u32, offset: u32, horizon: u32) -> u64
+pub(crate) fn due_times(period: u32, offset: u32, horizon: u32) -> u32
     requires times { (offset < period) × (period ≤ 1000) }
     requires horizon { horizon ≤ 100000 }
     ensures { result ≡ due_count period offset horizon }
 {
-    u64::from(firings(period, offset, horizon))
+    firings(period, offset, horizon)
 }
 
 fn firings_of(nodes: &[NodeInfo], horizon: u32) -> u64
@@ -87,7 +87,7 @@ fn firings_of(nodes: &[NodeInfo], horizon: u32) -> u64
 {
     let mut sum = 0;
     for node in nodes {
-        sum += due_times(node.period, node.offset, horizon);
+        sum += u64::from(due_times(node.period, node.offset, horizon));
     }
     sum
 }

@@ -1,15 +1,16 @@
 //! Shifts for the guests of a flight.
 
-ghost use Rattle.std.specs.Prelude.{◌≡◌, ℕ, ◌<◌, [], length, Some, MatchOption};
+ghost use Rattle.std.specs.Prelude.{◌≡◌, ◌≢◌, ℕ, ◌+◌, ◌<◌, [], length, Some, MatchOption};
 ghost use Rattle.sot_lists.specs.Places.{At};
 ghost use Rattle.sot_lang.specs.Tables.{Tables};
 ghost use Rattle.sot_eval_flat.specs.FlatForm.{IsFormOf};
 ghost use Rattle.sot_tube.specs.Admitted.{Admitted};
 ghost use Rattle.sot_flight.specs.Plans.{Guest};
 ghost use Rattle.sot_turn.specs.Passes.{lock_of, pass_lock, pass_ground, pass_seen};
-ghost use Rattle.sot_workers.specs.Flying.{IsUnnamed};
+ghost use Rattle.sot_workers.specs.declared.lists.NodeList.{NodeList};
+ghost use Rattle.sot_workers.specs.Flying.{IsFrom, IsUnnamed};
 ghost use Rattle.sot_workers.specs.Forms.{AreFormsOf};
-ghost use Rattle.sot_workers.specs.Lists.{HasNodes, AreEmpty};
+ghost use Rattle.sot_workers.specs.Lists.{HasNodes, AreEmpty, AreKept, HaveRoomIn};
 ghost use Rattle.sot_workers.specs.Sent.{IsJob};
 
 use crate::lists::NodeList;
@@ -46,6 +47,8 @@ pub(crate) fn take_list(alloc: Global, lists: &mut Vec<NodeList>, node: u32) -> 
     requires there { node < length lists.old.items }
     ensures lists { (count : ℕ) → AreEmpty count lists.old.items → AreEmpty count lists.new.items }
     ensures none { result.items ≡ [] }
+    ensures was { (list : NodeList) → At lists.old.items node list → result ≡ list.drafts }
+    ensures others { AreKept (λ n. n ≢ node) lists.old.items lists.new.items }
 {
     replace(&mut lists[node as usize].drafts, Vec::new(alloc))
 }
@@ -55,6 +58,8 @@ pub(crate) fn give_list(lists: &mut Vec<NodeList>, node: u32, drafts: Vec<Draft>
     requires there { node < length lists.old.items }
     requires none { drafts.items ≡ [] }
     ensures lists { (count : ℕ) → AreEmpty count lists.old.items → AreEmpty count lists.new.items }
+    ensures here { (list : NodeList) → At lists.new.items node list → list.drafts ≡ drafts }
+    ensures others { AreKept (λ n. n ≢ node) lists.old.items lists.new.items }
 {
     lists[node as usize].drafts = drafts;
 }
@@ -86,10 +91,12 @@ pub(crate) fn job_of<'a, C: Controller>(
         × (length flight.now.crews ≡ length a.program.nodes) }
     requires seen { pass_seen pass ≡ [] }
     requires lists { AreEmpty (length flight.now.crews) lists.old.items }
+    requires room { HaveRoomIn (pass_ground pass) (IsFrom number) lists.old.items }
     ensures lock { pass_lock result.0 ≡ pass_lock pass.entry }
     ensures ground { pass_ground result.0 ≡ pass_ground pass.entry }
     ensures seen { pass_seen result.0 ≡ [] }
     ensures lists { AreEmpty (length flight.now.crews) lists.new.items }
+    ensures room { HaveRoomIn (pass_ground pass.entry) (IsFrom (number + 1)) lists.new.items }
     ensures job { (a : Admitted) → pass_ground pass.entry ≡ Some (a, flight.now)
         → IsJob (lock_of turn.now) a flight.now number guest result.1 }
 {

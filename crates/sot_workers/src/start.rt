@@ -5,7 +5,9 @@ ghost use Rattle.sot_tube.specs.Admitted.{Admitted};
 ghost use Rattle.sot_flight.specs.Plans.{Plan};
 ghost use Rattle.sot_turn.specs.Passes.{lock_of, pass_lock, pass_ground, pass_seen};
 ghost use Rattle.sot_fly_worker.specs.Shifts.{IsReady, HasWorked};
-ghost use Rattle.sot_workers.specs.Lists.{AreEmpty};
+ghost use Rattle.sot_ordered_board.specs.Crews.{IsOwn};
+ghost use Rattle.sot_workers.specs.Flying.{IsFrom};
+ghost use Rattle.sot_workers.specs.Lists.{AreEmpty, HaveRoomIn};
 ghost use Rattle.sot_workers.specs.Pairs.{EachFrom};
 ghost use Rattle.sot_workers.specs.Sent.{IsJob, IsStarted, IsPlaced};
 
@@ -88,11 +90,13 @@ pub(crate) fn place_each<'s, 'a: 's, E, C: Controller + Send + 's, R: Threads + 
         × (length flight.now.crews ≡ length a.program.nodes) }
     requires seen { pass_seen pass ≡ [] }
     requires lists { AreEmpty (length flight.now.crews) lists.old.items }
+    requires drafts { HaveRoomIn (pass_ground pass) (IsFrom 0) lists.old.items }
     requires room { (places.items ≡ []) × (vec_len guests ≤ vec_capacity places) }
     ensures lock { pass_lock result.0 ≡ pass_lock pass.entry }
     ensures ground { pass_ground result.0 ≡ pass_ground pass.entry }
     ensures seen { pass_seen result.0 ≡ [] }
     ensures lists { AreEmpty (length flight.now.crews) lists.new.items }
+    ensures drafts { HaveRoomIn (pass_ground pass.entry) IsOwn lists.new.items }
     ensures placed { (a : Admitted) → pass_ground pass.entry ≡ Some (a, flight.now)
         → EachFrom (IsPlaced C.asked (lock_of turn.now) a flight.now) 0 guests.items
         result.1.items }

@@ -1,14 +1,17 @@
 //! Starting the workers of nodes that no guest flies.
 
-ghost use Rattle.std.specs.Prelude.{◌≡◌, ◌<◌, ◌≤◌, ◌↔◌, ℕ, [], length, vec_capacity};
-ghost use Rattle.std.specs.Prelude.{Some, IsTrue};
+ghost use Rattle.std.specs.Prelude.{◌≡◌, ◌≢◌, ◌<◌, ◌≤◌, ◌↔◌, ℕ, [], length, vec_capacity};
+ghost use Rattle.std.specs.Prelude.{Some, IsTrue, false};
+ghost use Rattle.sot_lists.specs.Places.{At};
 ghost use Rattle.sot_eval_flat.specs.FlatForm.{IsFormOf};
 ghost use Rattle.sot_tube.specs.Admitted.{Admitted};
 ghost use Rattle.sot_turn.specs.Passes.{lock_of, pass_lock, pass_ground, pass_seen};
 ghost use Rattle.sot_fly_worker.specs.Shifts.{IsReady, HasWorked};
 ghost use Rattle.sot_ordered_board.specs.Crews.{IsOwn};
+ghost use Rattle.sot_workers.specs.declared.lists.NodeList.{NodeList};
+ghost use Rattle.sot_workers.specs.Flying.{IsMine};
 ghost use Rattle.sot_workers.specs.Forms.{AreFormsOf};
-ghost use Rattle.sot_workers.specs.Lists.{AreEmpty};
+ghost use Rattle.sot_workers.specs.Lists.{AreEmpty, AreKept, HaveRoomIn};
 ghost use Rattle.sot_workers.specs.Pairs.{EachFrom};
 ghost use Rattle.sot_workers.specs.Stations.{IsSent, IsAt, IsStationed, has_thread};
 
@@ -31,6 +34,9 @@ fn stay<'a, C: Controller>(lists: &mut Vec<NodeList>, shift: Shift<'a, C>) -> St
     requires none { shift.drafts.items ≡ [] }
     requires there { shift.node < length lists.old.items }
     ensures lists { (count : ℕ) → AreEmpty count lists.old.items → AreEmpty count lists.new.items }
+    ensures others { AreKept (λ n. n ≢ shift.entry.node) lists.old.items lists.new.items }
+    ensures room { (list : NodeList) → At lists.new.items shift.entry.node list
+        → list.drafts ≡ shift.entry.drafts }
     ensures station { (lock : _) (began : _) → pass_lock shift.entry.pass ≡ lock
         → IsSent lock began result }
 {
@@ -57,6 +63,10 @@ fn keep<'a, C: Controller, R: Wait>(
         × (began.drafts.items ≡ []) }
     requires there { shift.node < length lists.old.items }
     ensures lists { (count : ℕ) → AreEmpty count lists.old.items → AreEmpty count lists.new.items }
+    ensures others { AreKept (λ n. n ≢ shift.entry.node) lists.old.items lists.new.items }
+    ensures room { (began : _) (list : NodeList) → HasWorked C.asked began shift.entry
+        → At lists.new.items shift.entry.node list
+        → vec_capacity list.drafts ≡ vec_capacity began.drafts }
     ensures station { (lock : _) (began : _) → IsReady lock began
         → HasWorked C.asked began shift.entry → IsSent lock began result }
 {
@@ -78,6 +88,10 @@ fn send<'s, 'a: 's, E, C: Controller + Send + 's, R: Threads + Wait + Sync>(
     requires ready { IsReady (lock_of turn.now) shift }
     requires there { shift.node < length lists.old.items }
     ensures lists { (count : ℕ) → AreEmpty count lists.old.items → AreEmpty count lists.new.items }
+    ensures others { AreKept (λ n. n ≢ shift.entry.node) lists.old.items lists.new.items }
+    ensures room { (list : NodeList) → At lists.new.items shift.entry.node list
+        → has_thread result ≡ false
+        → vec_capacity list.drafts ≡ vec_capacity shift.entry.drafts }
     ensures station { IsSent (lock_of turn.now) shift.entry result }
 {
     let node = shift.node;
@@ -105,6 +119,10 @@ fn assign<'s, 'a: 's, E, C: Controller + Send + 's, R: Threads + Wait + Sync>(
     requires ready { IsReady (lock_of turn.now) shift }
     requires there { shift.node < length lists.old.items }
     ensures lists { (count : ℕ) → AreEmpty count lists.old.items → AreEmpty count lists.new.items }
+    ensures others { AreKept (λ n. n ≢ shift.entry.node) lists.old.items lists.new.items }
+    ensures room { (list : NodeList) → At lists.new.items shift.entry.node list
+        → has_thread result ≡ false
+        → vec_capacity list.drafts ≡ vec_capacity shift.entry.drafts }
     ensures station { IsSent (lock_of turn.now) shift.entry result }
 {
     if is_tried {
@@ -142,12 +160,17 @@ fn station_of<'s, 'a: 's, E, C: Controller + Send + 's, R: Threads + Wait + Sync
     requires seen { pass_seen pass ≡ [] }
     requires lists { AreEmpty (length flight.now.crews) lists.old.items }
     requires there { node < length flight.now.crews }
+    requires room { HaveRoomIn (pass_ground pass) (λ f n. IsOwn f n × (n ≡ node))
+        lists.old.items }
     requires form { (a : Admitted) → pass_ground pass ≡ Some (a, flight.now)
         → IsFormOf a.program node form }
     ensures lock { pass_lock result.0 ≡ pass_lock pass.entry }
     ensures ground { pass_ground result.0 ≡ pass_ground pass.entry }
     ensures seen { pass_seen result.0 ≡ [] }
     ensures lists { AreEmpty (length flight.now.crews) lists.new.items }
+    ensures others { AreKept (λ n. n ≢ node) lists.old.items lists.new.items }
+    ensures room { has_thread result.1 ≡ false → HaveRoomIn (pass_ground pass.entry)
+        (λ f n. IsOwn f n × (n ≡ node)) lists.new.items }
     ensures station { (a : Admitted) → pass_ground pass.entry ≡ Some (a, flight.now)
         → IsAt (lock_of turn.now) a flight.now node result.1 }
 {
@@ -199,6 +222,7 @@ pub(crate) fn station_each<'s, 'a: 's, E, C: Controller + Send + 's, R: Threads 
         × (length flight.now.crews ≡ length a.program.nodes) }
     requires seen { pass_seen pass ≡ [] }
     requires lists { AreEmpty (length flight.now.crews) lists.old.items }
+    requires room { HaveRoomIn (pass_ground pass) IsOwn lists.old.items }
     requires forms { (a : Admitted) → pass_ground pass ≡ Some (a, flight.now)
         → AreFormsOf a.program forms.items }
     requires stations { (stations.items ≡ []) × (length flight.now.crews ≤ vec_capacity stations) }
@@ -207,6 +231,8 @@ pub(crate) fn station_each<'s, 'a: 's, E, C: Controller + Send + 's, R: Threads 
     ensures ground { pass_ground result.0 ≡ pass_ground pass.entry }
     ensures seen { pass_seen result.0 ≡ [] }
     ensures lists { AreEmpty (length flight.now.crews) lists.new.items }
+    ensures room { HaveRoomIn (pass_ground pass.entry) (λ f. IsMine f result.2.items)
+        lists.new.items }
     ensures count { length result.1.items ≡ length flight.now.crews }
     ensures stationed { (a : Admitted) → pass_ground pass.entry ≡ Some (a, flight.now)
         → EachFrom (IsStationed (lock_of turn.now) a flight.now) 0 result.2.items result.1.items }

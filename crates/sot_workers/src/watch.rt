@@ -7,8 +7,9 @@ ghost use Rattle.sot_flight.specs.Plans.{Plan};
 ghost use Rattle.sot_turn.specs.Prefixes.{IsPrefix};
 ghost use Rattle.sot_turn.specs.Passes.{lock_of, pass_lock, pass_ground, pass_seen};
 ghost use Rattle.sot_board.specs.Flown.{FlownBy};
+ghost use Rattle.sot_workers.specs.Flying.{IsMine};
 ghost use Rattle.sot_workers.specs.Instants.{GoesOn};
-ghost use Rattle.sot_workers.specs.Lists.{AreMine, KeepsLists};
+ghost use Rattle.sot_workers.specs.Lists.{AreMine, KeepsLists, HaveRoomIn, KeepsRoom};
 ghost use Rattle.sot_workers.specs.Pairs.{EachFrom};
 ghost use Rattle.sot_workers.specs.Sent.{IsCallers, IsPlaced};
 
@@ -31,16 +32,18 @@ fn work_in_turn<R: Wait>(
     rings: &mut Rings,
     lists: &mut Vec<NodeList>,
 ) -> bool
-    requires { (seen : List Logged) × IsPrefix seen board.old.entries
+    requires lists { (seen : List Logged) × IsPrefix seen board.old.entries
         × AreMine (length board.old.accepted.program.nodes) board.old.plan
         away.now lists.old.items seen }
+    requires room { KeepsRoom board.old away.now lists.old.items }
     ensures goes_on { GoesOn board.old board.new }
     ensures lists { KeepsLists board.new away.now lists.new.items }
+    ensures room { KeepsRoom board.new away.now lists.new.items }
     ensures finished { result ≡ true → FlownBy board.new.accepted.program
         board.new.accepted.cert.jitter board.new.plan board.new.entries }
 {
     compare(rt, board, away, lists);
-    work_on(rt, board, bells, away, lists);
+    work_on(board, bells, away, lists);
     rings.note(board, long);
     board.reveal_invariant();
     board.finished()
@@ -60,10 +63,12 @@ fn take_own_turn<'a, R: Wait>(
     requires lock { pass_lock pass ≡ lock_of turn.now }
     requires callers { (a : Admitted) × (f : Plan)
         × IsCallers a f away.now (pass_ground pass) (pass_seen pass) lists.old.items }
+    requires room { HaveRoomIn (pass_ground pass) (λ f. IsMine f away.now) lists.old.items }
     ensures lock { pass_lock result.0 ≡ pass_lock pass.entry }
     ensures ground { pass_ground result.0 ≡ pass_ground pass.entry }
     ensures callers { (a : Admitted) (f : Plan) → pass_ground pass.entry ≡ Some (a, f)
         → IsCallers a f away.now (pass_ground result.0) (pass_seen result.0) lists.new.items }
+    ensures room { HaveRoomIn (pass_ground pass.entry) (λ f. IsMine f away.now) lists.new.items }
     ensures finished { result.1 ≡ true → (a : Admitted) (f : Plan)
         → pass_ground pass.entry ≡ Some (a, f)
         → FlownBy a.program a.cert.jitter f (pass_seen result.0) }
@@ -138,6 +143,7 @@ pub(crate) fn watch<'a, C: Controller, R: Wait>(
     requires lock { pass_lock pass ≡ lock_of turn.now }
     requires callers { (a : Admitted) × (f : Plan)
         × IsCallers a f away.now (pass_ground pass) (pass_seen pass) lists.old.items }
+    requires room { HaveRoomIn (pass_ground pass) (λ f. IsMine f away.now) lists.old.items }
     requires places { (a : Admitted) × (f : Plan) × (guests : List C)
         × EachFrom (IsPlaced C.asked (lock_of turn.now) a f) 0 guests places.old.items }
     ensures lock { pass_lock result ≡ pass_lock pass.entry }

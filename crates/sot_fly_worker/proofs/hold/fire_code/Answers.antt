@@ -19,21 +19,21 @@ take_next-held-requires-clause-there g c = subst (HasNode (pass_ground c.args.pa
 pub take_next-held-requires-clause-drafts : goal.take_next-held-requires-clause-drafts
 take_next-held-requires-clause-drafts g c = c.requires.drafts ∙ ap (λ n. drafts_of n (pass_seen c.args.pass)) (sym c.node.ensures)
 
-pub commit_run-receipt-requires-clause-next : goal.commit_run-receipt-requires-clause-next
-commit_run-receipt-requires-clause-next g c =
+pub commit_run-follower-requires-clause-next : goal.commit_run-follower-requires-clause-next
+commit_run-follower-requires-clause-next g c =
     subst (λ b. FiresNext b (viewed_node c.args.view)) (sym c.lend.ensures.value)
     (subst (FiresNext (held_value c.take_next-held.result)) c.node.ensures c.take_next-held.ensures.next)
 
-pub commit_run-receipt-requires-clause-coded : goal.commit_run-receipt-requires-clause-coded
-commit_run-receipt-requires-clause-coded g c =
+pub commit_run-follower-requires-clause-coded : goal.commit_run-follower-requires-clause-coded
+commit_run-follower-requires-clause-coded g c =
     let b = c.lend.result.now in
     let seen = c.requires.seen in
     let ground = c.take_next-held.ensures.ground_now ∙ ap (λ x. Some (x.accepted, x.plan)) (sym c.lend.ensures.value) in
     subst (λ t. IsCodedNode t (viewed_node c.args.view)) (seen.1 ∙ same_program (pass_ground c.args.pass) seen.0.board b seen.0.ground_is ground)
     c.requires.coded
 
-pub commit_run-receipt-requires-clause-taken : goal.commit_run-receipt-requires-clause-taken
-commit_run-receipt-requires-clause-taken g c =
+pub commit_run-follower-requires-clause-taken : goal.commit_run-follower-requires-clause-taken
+commit_run-follower-requires-clause-taken g c =
     let b = c.lend.result.now in
     let known = pass_seen c.args.pass in
     let value = c.lend.ensures.value in
@@ -41,13 +41,23 @@ commit_run-receipt-requires-clause-taken g c =
     taken_from (pass_ground c.args.pass) known (viewed_node c.args.view) c.args.view b c.requires.seen.0 ground
     (subst (λ x. IsPrefix known x.entries) (sym value) c.take_next-held.ensures.goes_on)
 
-pub commit_run-receipt-requires-clause-ran : goal.commit_run-receipt-requires-clause-ran
-commit_run-receipt-requires-clause-ran g c =
+pub commit_run-follower-requires-clause-ran : goal.commit_run-follower-requires-clause-ran
+commit_run-follower-requires-clause-ran g c =
     let b = c.lend.result.now in
     let seen = c.requires.seen in
     let ground = c.take_next-held.ensures.ground_now ∙ ap (λ x. Some (x.accepted, x.plan)) (sym c.lend.ensures.value) in
     subst (λ t. IsRunOn t c.args.view c.run-fired.result) (seen.1 ∙ same_program (pass_ground c.args.pass) seen.0.board b seen.0.ground_is ground)
     c.run-fired.ensures
+
+pub commit_run-follower-requires-clause-drafts : goal.commit_run-follower-requires-clause-drafts
+commit_run-follower-requires-clause-drafts g c =
+    ap (λ x. drafts_of (viewed_node c.args.view) x.entries) c.lend.ensures.value
+    ∙ ap (λ k. drafts_of k (held_value c.take_next-held.result).entries) (sym c.node.ensures) ∙ c.take_next-held.ensures.in_step
+
+pub commit_run-follower-requires-clause-room : goal.commit_run-follower-requires-clause-room
+commit_run-follower-requires-clause-room g c =
+    let b = c.lend.result.now in
+    c.requires.room b.accepted b.plan (c.take_next-held.ensures.ground_now ∙ ap (λ x. Some (x.accepted, x.plan)) (sym c.lend.ensures.value))
 
 pub returns-clause-fired : goal.returns-clause-fired
 returns-clause-fired g c =
@@ -55,26 +65,26 @@ returns-clause-fired g c =
     let b = c.lend.result.now in
     let known = pass_seen c.args.pass in
     let value = c.lend.ensures.value in
-    let draft = c.commit_run-receipt.result.0.draft in
+    let draft = c.commit_run-follower.ensures.notes.draft in
     let on : IsPrefix known b.entries = subst (λ x. IsPrefix known x.entries) (sym value) c.take_next-held.ensures.goes_on in
     let step : drafts_of n b.entries ≡ drafts_of n known = ap (λ x. drafts_of n x.entries) value
     ∙ ap (λ k. drafts_of k (held_value c.take_next-held.result).entries) (sym c.node.ensures) ∙ c.take_next-held.ensures.in_step
     ∙ c.requires.drafts in
-    let gave : pass_added c.give-pass.result ≡ pass_added c.args.pass ++ behind b.entries c.commit_run-receipt.new.board.entries =
-    c.give-pass.ensures.added ∙ ap₂ (λ l es. l ++ behind es c.commit_run-receipt.new.board.entries) c.take_next-held.ensures.added
+    let gave : pass_added c.give-pass.result ≡ pass_added c.args.pass ++ behind b.entries c.commit_run-follower.new.board.entries =
+    c.give-pass.ensures.added ∙ ap₂ (λ l es. l ++ behind es c.commit_run-follower.new.board.entries) c.take_next-held.ensures.added
     (c.take_next-held.ensures.seen ∙ ap (λ x. x.entries) (sym value)) in (
       draft,
       subst (λ es. HasFired n draft known es (pass_added c.args.pass) (pass_added c.give-pass.result)) (sym c.give-pass.ensures.seen)
-          (has_fired known b c.commit_run-receipt.new.board n draft (pass_added c.args.pass) (pass_added c.give-pass.result) on step
-          c.commit_run-receipt.ensures gave),
+          (has_fired known b c.commit_run-follower.new.board n draft (pass_added c.args.pass) (pass_added c.give-pass.result) on step
+          c.commit_run-follower.ensures.notes.appends gave),
     )
 
 pub returns-clause-drafts : goal.returns-clause-drafts
 returns-clause-drafts g c =
     let n = viewed_node c.args.view in
     let b = c.lend.result.now in
-    let draft = c.commit_run-receipt.result.0.draft in
+    let draft = c.commit_run-follower.ensures.notes.draft in
     let was = ap (λ x. drafts_of n x.entries) c.lend.ensures.value ∙ ap (λ k. drafts_of k (held_value c.take_next-held.result).entries) (sym c.node.ensures)
     ∙ c.take_next-held.ensures.in_step in
-    let now = noted b c.commit_run-receipt.new.board n draft c.commit_run-receipt.ensures in
-    c.append.ensures ∙ ap (λ l. l ++ draft ∷ []) (sym was) ∙ sym now ∙ ap (drafts_of n) (sym c.give-pass.ensures.seen)
+    let now = noted b c.commit_run-follower.new.board n draft c.commit_run-follower.ensures.notes.appends in
+    c.commit_run-follower.ensures.notes.noted ∙ ap (λ l. l ++ draft ∷ []) (sym was) ∙ sym now ∙ ap (drafts_of n) (sym c.give-pass.ensures.seen)

@@ -1,4 +1,5 @@
 use Rattle.std.proofs.Common.{◌∙◌, ℕ, false, [], Some, refl, sym, ap, subst}
+use Rattle.std.specs.Prelude.{vec_capacity}
 use Rattle.std.proofs.lemmas.List.{append-nil}
 use Rattle.std.proofs.lemmas.Option.{same_Some}
 use Rattle.sot_flight.specs.Plans.{Plan, Guest}
@@ -16,11 +17,11 @@ use Rattle.sot_board.specs.Versions.{drafts_of}
 use Rattle.sot_board.specs.Views.{viewed_node}
 use Rattle.sot_fly_worker.specs.Shifts.{HasItsGuest}
 use Rattle.sot_world.specs.NodeSorts.{IsCodedNode, IsExternalNode}
-use Rattle.sot_fly_worker.specs.Holds.{HasNode, IsDueView}
+use Rattle.sot_fly_worker.specs.Holds.{HasNode, IsDueView, HasRoomIn}
 use Rattle.sot_fly_worker.specs.Turned.{IsQuiet}
 use Rattle.sot_world.proofs.Options.{none_there}
 use Rattle.sot_fly_worker.proofs.Arms.{quiet, flown_here, seen_here, seen_program, not_yet, quiet_turn, unasked_turn, asked_turn, nothing_added, same_shift}
-use Rattle.sot_fly_worker.proofs.Arms.{turn_rests}
+use Rattle.sot_fly_worker.proofs.Arms.{turn_rests, room_here}
 use Rattle.sot_fly_worker.proofs.Arms.{turn_fires, fired_along}
 use Rattle.sot_fly_worker.proofs.turns.take_turn.Goals as goal
 
@@ -51,6 +52,25 @@ fire_stated-pass-requires-clause-external g c = λ a f is.
     let known = c.give-pass.ensures.ground ∙ held.ground ∙ held.ground_now ∙ ap (λ x. Some (x.accepted, x.plan)) (sym c.lend.ensures.value) in
     subst (λ (x : Admitted × Plan). IsExternalNode x.0.program c.args.shift.node) (same_Some (b.accepted, b.plan) (a, f) (sym known ∙ is))
     c.in-Stated.ensures.sight.2
+
+pub fire_stated-pass-requires-clause-room : goal.fire_stated-pass-requires-clause-room
+fire_stated-pass-requires-clause-room g c =
+    let at = c.requires.at_work in
+    room_here (pass_ground c.give-pass.result) at.accepted at.plan c.args.shift.node _ (c.give-pass.ensures.ground ∙ c.take_in_step-held.ensures.ground ∙ at.ground)
+    at.room
+
+pub fire_code-pass-requires-clause-room : goal.fire_code-pass-requires-clause-room
+fire_code-pass-requires-clause-room g c =
+    let at = c.requires.at_work in
+    let ground = c.give-pass-in-Runs.ensures.ground ∙ c.take_in_step-held.ensures.ground ∙ at.ground in
+    subst (λ n. HasRoomIn (pass_ground c.give-pass-in-Runs.result) n (vec_capacity c.args.shift.drafts)) (sym c.in-Runs.ensures.sight.3.view.node)
+    (room_here (pass_ground c.give-pass-in-Runs.result) at.accepted at.plan c.args.shift.node _ ground at.room)
+
+pub fire_guest-pass-requires-clause-room : goal.fire_guest-pass-requires-clause-room
+fire_guest-pass-requires-clause-room g c =
+    let at = c.requires.at_work in
+    let ground = c.give-pass-in-Asks.ensures.ground ∙ c.take_in_step-held.ensures.ground ∙ at.ground in
+    room_here (pass_ground c.give-pass-in-Asks.result) at.accepted at.plan c.args.shift.node _ ground at.room
 
 pub fire_code-pass-requires-clause-there : goal.fire_code-pass-requires-clause-there
 fire_code-pass-requires-clause-there g c =
@@ -111,7 +131,7 @@ returns-in-Ended-clause-on_shift g c = λ began was.
     let same = ap (λ x. drafts_of old.node x.entries) value ∙ held.in_step ∙ c.requires.at_work.drafts in
     let still = subst (IsQuiet old.node known) (sym c.give.ensures.seen) (quiet old.node known b.entries on same) in
     let nothing = nothing_added (pass_added old.pass) _ _ _ b.entries c.give.ensures.added held.added (held.seen ∙ ap (λ x. x.entries) (sym value)) in
-    quiet_turn g.C.Controller.asked began old _ was refl refl (c.give.ensures.lock ∙ held.lock) (c.give.ensures.ground ∙ held.ground) still nothing refl refl
+    quiet_turn g.C.Controller.asked began old _ was refl refl (c.give.ensures.lock ∙ held.lock) (c.give.ensures.ground ∙ held.ground) still nothing refl refl refl
     (λ yes. flown_here (pass_ground old.pass) was.at_work.accepted was.at_work.plan b (pass_seen c.give.result) was.at_work.ground ground c.give.ensures.seen
     (b.position, c.see.ensures.standing.flown, c.in-Ended.ensures.sight))
 
@@ -146,7 +166,7 @@ returns-in-Idle-clause-on_shift g c = λ began was.
     subst (λ s. IsOnShift g.C.Controller.asked began s) (same_shift c.unfinished.result
     (record { node = old.node; finished = false; pass = c.give-in-Idle.result; drafts = old.drafts; guest = old.guest; form = old.form }) c.unfinished.ensures)
     (quiet_turn g.C.Controller.asked began old _ was refl refl (c.give-in-Idle.ensures.lock ∙ held.lock) (c.give-in-Idle.ensures.ground ∙ held.ground) still
-    nothing refl refl not_yet)
+    nothing refl refl refl not_yet)
 
 pub returns-in-Idle-clause-turn : goal.returns-in-Idle-clause-turn
 returns-in-Idle-clause-turn g c = λ a f is.
@@ -181,7 +201,7 @@ returns-in-Stated-clause-on_shift g c = λ began was.
     (record { node = old.node; finished = false; pass = c.fire_stated-pass.result; drafts = c.fire_stated-pass.new.drafts; guest = old.guest; form = old.form })
     c.unfinished-in-Stated.ensures)
     (unasked_turn g.C.Controller.asked began old _ was refl refl (fired.lock ∙ gave.lock ∙ held.lock) (fired.ground ∙ gave.ground ∙ held.ground) b.entries
-    fired.fired.0 (same ∙ sym c.requires.at_work.drafts) once fired.drafts (none_there old.guest (sym c.is_some.ensures ∙ c.in-Stated.ensures.sight.0)) refl
+    fired.fired.0 (same ∙ sym c.requires.at_work.drafts) once fired.drafts fired.room (none_there old.guest (sym c.is_some.ensures ∙ c.in-Stated.ensures.sight.0)) refl
     refl)
 
 pub returns-in-Stated-clause-turn : goal.returns-in-Stated-clause-turn
@@ -223,7 +243,7 @@ returns-in-Runs-clause-on_shift g c = λ began was.
     (record { node = old.node; finished = false; pass = c.fire_code-pass.result; drafts = c.fire_code-pass.new.drafts; guest = old.guest; form = old.form })
     c.unfinished-in-Runs.ensures)
     (unasked_turn g.C.Controller.asked began old _ was refl refl (fired.lock ∙ gave.lock ∙ held.lock) (fired.ground ∙ gave.ground ∙ held.ground) b.entries
-    fired.fired.0 (same ∙ sym c.requires.at_work.drafts) once drafts (none_there old.guest (sym c.is_some.ensures ∙ runs.0)) refl refl)
+    fired.fired.0 (same ∙ sym c.requires.at_work.drafts) once drafts fired.room (none_there old.guest (sym c.is_some.ensures ∙ runs.0)) refl refl)
 
 pub returns-in-Runs-clause-turn : goal.returns-in-Runs-clause-turn
 returns-in-Runs-clause-turn g c = λ a f is.
@@ -273,7 +293,7 @@ returns-in-Some-clause-on_shift g c = λ began was.
     (asked_turn g.C.Controller.asked began old _ was refl refl (fired.lock ∙ gave.lock ∙ held.lock) (fired.ground ∙ gave.ground ∙ held.ground)
     then v c.ask-draft.result c.in-Some.asked c.ask-draft.new.guest still
     (seen_here (pass_ground old.pass) then old.node v b c.in-Asks.ensures.sight.1 ground gave.seen)
-    (λ a f is. fired_along _ _ _ _ _ _ _ (pass_added old.pass) _ refl refl nothing (fired.fired a f (gave.ground ∙ held.ground ∙ is))) fired.drafts c.in-Some.is
+    (λ a f is. fired_along _ _ _ _ _ _ _ (pass_added old.pass) _ refl refl nothing (fired.fired a f (gave.ground ∙ held.ground ∙ is))) fired.drafts fired.room c.in-Some.is
     refl c.ask-draft.ensures refl)
 
 pub returns-in-Some-clause-turn : goal.returns-in-Some-clause-turn

@@ -3,6 +3,8 @@ use Rattle.sot_lists.specs.Places.{At}
 use Rattle.sot_flight.specs.Plans.{Guest}
 use Rattle.sot_board.specs.Standing.{Standing}
 use Rattle.sot_turn.specs.Passes.{pass_ground}
+use Rattle.std.specs.Prelude.{vec_capacity}
+use Rattle.sot_fly_worker.specs.Rooms.{HasRoomFor}
 use Rattle.sot_workers.specs.Forms.{AreFormsOf}
 use Rattle.sot_workers.specs.Pairs.{EachFrom}
 use Rattle.sot_workers.specs.Back.{IsGuestBack, FliesOnce}
@@ -25,6 +27,15 @@ fly_behind-requires-clause-forms g c κs within = λ a is.
     let b = c.args.board in
     let same = ground_same (pass_ground c.in_ok-turn.pass) b.accepted a b.plan _ (c.in_ok-turn.ensures.ground ∙ ap (λ (s : Standing). Some (s.accepted, s.plan)) c.new-ordered.ensures) is in
     subst (λ t. AreFormsOf t c.in_ok-room.room.forms.items) (c.typed-p.ensures ∙ ap (λ x. x.program) same.0) c.in_ok-room.ensures.forms
+
+pub fly_behind-requires-clause-lists : goal.fly_behind-requires-clause-lists
+fly_behind-requires-clause-lists g c κs within = λ a f is n list at from.
+    let b = c.args.board in
+    let same = ground_same (pass_ground c.in_ok-turn.pass) b.accepted a b.plan f
+    (c.in_ok-turn.ensures.ground ∙ ap (λ (s : Standing). Some (s.accepted, s.plan)) c.new-ordered.ensures) is in
+    subst (λ t. HasRoomFor t.nodes f.horizon n (vec_capacity list.drafts)) (c.typed-p.ensures ∙ ap (λ x. x.program) same.0)
+    (subst (λ x. HasRoomFor c.typed-p.result.now.nodes x.horizon n (vec_capacity list.drafts)) (c.flight-flight.ensures ∙ same.1)
+    (c.in_ok-room.ensures.drafts n list at tt))
 
 pub returns-clause-lists : goal.returns-clause-lists
 returns-clause-lists g c =

@@ -1,6 +1,9 @@
 use Rattle.std.proofs.Common.{◌≡◌, ◌∙◌, ◌≤◌, length, vec_len, vec_capacity, sym, subst, arith}
 use Rattle.sot_turn.specs.Passes.{lock_of, pass_ground, pass_seen}
-use Rattle.sot_workers.specs.Lists.{AreMine}
+use Rattle.sot_ordered_board.specs.Crews.{IsOwn}
+use Rattle.sot_workers.specs.Flying.{IsMine}
+use Rattle.sot_workers.specs.Lists.{AreMine, HaveRoomIn}
+use Rattle.sot_workers.proofs.Rooms.{room_along}
 use Rattle.sot_workers.specs.Sent.{IsPlaced}
 use Rattle.sot_workers.proofs.Histories.{goes_here, goes_further}
 use Rattle.sot_workers.proofs.PairFacts.{each_length}
@@ -30,6 +33,18 @@ watch-pass-requires-clause-callers g c =
       callers_begin known.0 f c.as_slice.result.now (pass_ground stationed.result.0) (pass_seen stationed.result.0) stationed.new.lists.items
           (stationed.ensures.ground ∙ (placed.ensures.ground ∙ known.1)) known.2 stationed.ensures.seen stationed.ensures.lists,
     )
+
+pub station_each-pass-requires-clause-room : goal.station_each-pass-requires-clause-room
+station_each-pass-requires-clause-room g c κs within =
+    room_along (pass_ground c.args.leaving.pass) (pass_ground c.place_each-pass.result.0) IsOwn c.place_each-pass.new.lists.items c.place_each-pass.ensures.ground
+    c.place_each-pass.ensures.drafts
+
+pub watch-pass-requires-clause-room : goal.watch-pass-requires-clause-room
+watch-pass-requires-clause-room g c =
+    let stationed = c.station_each-pass in
+    subst (λ noted. HaveRoomIn (pass_ground stationed.result.0) (λ f. IsMine f noted) stationed.new.lists.items) (sym c.as_slice.ensures.value)
+    (room_along (pass_ground c.place_each-pass.result.0) (pass_ground stationed.result.0) (λ f. IsMine f stationed.result.2.items) stationed.new.lists.items
+    stationed.ensures.ground stationed.ensures.room)
 
 pub watch-pass-requires-clause-places : goal.watch-pass-requires-clause-places
 watch-pass-requires-clause-places g c =

@@ -9,4 +9,4 @@ overflow_add-sum c =
     let at = slice_get_read list _ c.loop-node.node-index c.node-item.result refl c.loop-node-test.true c.node-item.is in
     let more = firings_more c.args.horizon list c.loop-node.node-index c.node-item.result at in
     let small = firings_small c.args.horizon list c.requires.horizon in
-    omega (arith, c.loop-node.invariant, more, small, c.requires.few, c.due_times-sum.ensures)
+    omega (arith, c.loop-node.invariant, more, small, c.requires.few, c.due_times.ensures, c.from-sum.ensures)

@@ -1,6 +1,12 @@
 use Rattle.std.proofs.Common.{◌≡◌, ◌∙◌, [], length, refl, sym, subst, rules}
 use Rattle.std.specs.Vec.Iter.{into_iter_items}
 use Rattle.sot_turn.specs.Passes.{lock_of}
+use Rattle.std.specs.Prelude.{◌+◌, vec_len}
+use Rattle.sot_turn.specs.Passes.{pass_ground}
+use Rattle.sot_ordered_board.specs.Crews.{IsOwn}
+use Rattle.sot_workers.specs.Flying.{IsFrom}
+use Rattle.sot_workers.specs.Lists.{HaveRoomIn}
+use Rattle.sot_workers.proofs.Rooms.{room_fewer, room_along, own_from, from_none}
 use Rattle.sot_workers.specs.Sent.{IsPlaced}
 use Rattle.sot_workers.specs.Pairs.{EachFrom}
 use Rattle.sot_workers.proofs.Coming.{AreComing, Same, each_same, coming_begins, coming_more, coming_ends}
@@ -13,6 +19,8 @@ loop-guest-init g c = record {
   ground = refl;
   seen = c.requires.seen;
   lists = c.requires.lists;
+  drafts = room_fewer (pass_ground c.args.pass) (IsFrom 0) (IsFrom (vec_len c.args.places)) c.args.lists.now.items (λ f n. from_none (vec_len c.args.places) f n)
+      c.requires.drafts;
   room = search rules;
   count = search rules;
   placed = λ a is.
@@ -25,6 +33,17 @@ pub job_of-back-requires-clause-ground : goal.job_of-back-requires-clause-ground
 job_of-back-requires-clause-ground g c =
     let known = c.requires.ground in
     (known.0, c.loop-guest.invariant.ground ∙ known.1, known.2)
+
+pub job_of-back-requires-clause-room : goal.job_of-back-requires-clause-room
+job_of-back-requires-clause-room g c =
+    let inv = c.loop-guest.invariant in
+    subst (λ k. HaveRoomIn (pass_ground c.loop-guest.pass) (IsFrom k) c.loop-guest.lists.items) (search rules)
+    (room_along (pass_ground c.args.pass) (pass_ground c.loop-guest.pass) (IsFrom (vec_len c.loop-guest.places)) c.loop-guest.lists.items inv.ground inv.drafts)
+
+pub returns-clause-drafts : goal.returns-clause-drafts
+returns-clause-drafts g c =
+    let number = vec_len c.loop-guest.places in
+    room_fewer (pass_ground c.args.pass) (IsFrom number) IsOwn c.loop-guest.lists.items (λ f n. own_from number f n) c.loop-guest.invariant.drafts
 
 pub place-requires : goal.place-requires
 place-requires g c =
@@ -51,6 +70,10 @@ loop-guest-preserved g c =
       ground = job.ground ∙ inv.ground;
       seen = job.seen;
       lists = job.lists;
+      drafts =
+          subst (λ k. HaveRoomIn (pass_ground c.args.pass) (IsFrom k) c.job_of-back.new.lists.items) (search rules)
+          (room_along (pass_ground c.loop-guest.pass) (pass_ground c.args.pass) (IsFrom (c.len-number.result + 1)) c.job_of-back.new.lists.items (sym inv.ground)
+          job.room);
       room = search rules;
       count = search rules;
       placed = λ a is.

@@ -1,4 +1,5 @@
-use Rattle.std.proofs.Common.{subst, arith}
+use Rattle.std.proofs.Common.{◌∙◌, sym, subst, arith}
+use Rattle.sot_lists.specs.Places.{At}
 use Rattle.sot_turn.specs.Passes.{lock_of}
 use Rattle.sot_workers.specs.declared.place.Place.TheVariants.{Here}
 use Rattle.sot_workers.specs.Sent.{IsStarted}
@@ -32,3 +33,18 @@ returns-in-Here-Some-clause-station g c =
     let P = IsStarted g.C.Controller.asked c.args.shift in
     let worked = subst (λ o. P (Here o)) c.in-Here-Some.field-0-is (subst P c.in-Here-Some.is c.start.ensures) in
     c.keep.ensures.station (lock_of c.args.turn.now) c.args.shift c.requires.ready worked
+
+pub returns-in-Out-clause-room : goal.returns-in-Out-clause-room
+returns-in-Out-clause-room g c = λ list at none. absurd cc
+
+pub returns-in-Here-Some-clause-others : goal.returns-in-Here-Some-clause-others
+returns-in-Here-Some-clause-others g c = λ n list other at.
+    let P = IsStarted g.C.Controller.asked c.args.shift in
+    let worked = subst (λ o. P (Here o)) c.in-Here-Some.field-0-is (subst P c.in-Here-Some.is c.start.ensures) in
+    c.keep.ensures.others n list (λ same. other (same ∙ worked.on_shift.node)) at
+
+pub returns-in-Here-Some-clause-room : goal.returns-in-Here-Some-clause-room
+returns-in-Here-Some-clause-room g c = λ list at none.
+    let P = IsStarted g.C.Controller.asked c.args.shift in
+    let worked = subst (λ o. P (Here o)) c.in-Here-Some.field-0-is (subst P c.in-Here-Some.is c.start.ensures) in
+    c.keep.ensures.room c.args.shift list worked (subst (λ n. At c.keep.new.lists.items n list) (sym worked.on_shift.node) at)

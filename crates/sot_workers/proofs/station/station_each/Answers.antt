@@ -1,6 +1,10 @@
 use Rattle.std.proofs.Common.{◌≡◌, ◌∙◌, ◌+◌, ◌<◌, ◌∷◌, ◌++◌, [], length, refl, sym, subst, arith, rules}
 use Rattle.std.proofs.lemmas.Option.{slice_get_read}
-use Rattle.sot_turn.specs.Passes.{lock_of}
+use Rattle.sot_turn.specs.Passes.{lock_of, pass_ground}
+use Rattle.sot_ordered_board.specs.Crews.{IsOwn}
+use Rattle.sot_workers.specs.Flying.{IsMine, IsMineAmong}
+use Rattle.sot_workers.specs.Lists.{HaveRoomIn}
+use Rattle.sot_workers.proofs.Rooms.{room_fewer, room_along, room_stationed}
 use Rattle.sot_workers.specs.Pairs.{EachFrom}
 use Rattle.sot_workers.specs.Stations.{IsAt, IsStationed}
 use Rattle.sot_workers.proofs.PairFacts.{each_more}
@@ -12,6 +16,7 @@ loop-place-init g c = record {
   ground = refl;
   seen = c.requires.seen;
   lists = c.requires.lists;
+  drafts = room_fewer (pass_ground c.args.pass) IsOwn (IsMineAmong 0 c.args.away.items) c.args.lists.now.items (λ f n mine. mine.0) c.requires.room;
   count = search rules;
   same = search rules;
   room = c.requires.stations.1;
@@ -35,6 +40,23 @@ station_of-back-requires-clause-there g c =
     all.nodes place c.index.result.now (slice_get_read lists (length lists) place c.index.result.now refl there c.index.ensures) in
     omega (arith, same, there, all.each)
 
+pub station_of-back-requires-clause-room : goal.station_of-back-requires-clause-room
+station_of-back-requires-clause-room g c κs within =
+    let inv = c.loop-place.invariant in
+    let lists = c.loop-place.lists.items in
+    let place = c.loop-place.place in
+    let there : place < length lists = omega (arith, inv.lists.nodes.each, c.len-count.ensures, c.args.lists.now.ok.0, c.requires.lists.nodes.each) in
+    let same : c.index.result.now.node ≡ place =
+    inv.lists.nodes.nodes place c.index.result.now (slice_get_read lists (length lists) place c.index.result.now refl there c.index.ensures) in
+    room_along (pass_ground c.args.pass) (pass_ground c.loop-place.pass) (λ f n. IsOwn f n × (n ≡ c.index.result.now.node)) lists inv.ground
+    (room_fewer (pass_ground c.args.pass) (IsMineAmong place c.loop-place.away.items) (λ f n. IsOwn f n × (n ≡ c.index.result.now.node)) lists
+    (λ f n own. (own.0, (λ lt. absurd (omega (arith, lt, own.1, same))))) inv.drafts)
+
+pub returns-clause-room : goal.returns-clause-room
+returns-clause-room g c =
+    room_fewer (pass_ground c.args.pass) (IsMineAmong c.loop-place.place c.loop-place.away.items) (λ f. IsMine f c.loop-place.away.items) c.loop-place.lists.items
+    (λ f n mine. (mine.0, (λ lt. mine.1))) c.loop-place.invariant.drafts
+
 pub station_of-back-requires-clause-form : goal.station_of-back-requires-clause-form
 station_of-back-requires-clause-form g c κs within = λ a is.
     let inv = c.loop-place.invariant in
@@ -56,6 +78,17 @@ loop-place-preserved g c =
       ground = did.ground ∙ inv.ground;
       seen = did.seen;
       lists = did.lists;
+      drafts =
+          let ground = sym inv.ground in
+          let at_place : HaveRoomIn (pass_ground c.args.pass) (IsMineAmong (place + 1) (c.loop-place.away.items ++ c.is_thread.result ∷ [])) c.station_of-back.new.lists.items =
+          room_stationed (pass_ground c.args.pass) place c.loop-place.away.items c.is_thread.result lists c.station_of-back.new.lists.items
+          (omega (arith, inv.same, c.loop-place.away.ok.0))
+          (λ n list other at. did.others n list (λ is. other (is ∙ same)) at)
+          (λ none. room_along (pass_ground c.loop-place.pass) (pass_ground c.args.pass) (λ f n. IsOwn f n × (n ≡ place)) c.station_of-back.new.lists.items ground
+          (subst (λ k. HaveRoomIn (pass_ground c.loop-place.pass) (λ f n. IsOwn f n × (n ≡ k)) c.station_of-back.new.lists.items) same
+          (did.room (sym c.is_thread.ensures ∙ none))))
+          inv.drafts in
+          subst (λ l. HaveRoomIn (pass_ground c.args.pass) (IsMineAmong (place + 1) l) c.station_of-back.new.lists.items) (sym one.items) at_place;
       count = search rules;
       same = search rules;
       room = search rules;

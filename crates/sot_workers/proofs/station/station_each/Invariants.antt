@@ -1,8 +1,9 @@
 use Rattle.std.proofs.Common.{◌≡◌, ◌≤◌, [], Some, length, vec_len, vec_capacity}
 use Rattle.sot_tube.specs.Admitted.{Admitted}
 use Rattle.sot_turn.specs.Passes.{lock_of, pass_lock, pass_ground, pass_seen}
+use Rattle.sot_workers.specs.Flying.{IsMineAmong}
 use Rattle.sot_workers.specs.Forms.{AreFormsOf}
-use Rattle.sot_workers.specs.Lists.{AreEmpty}
+use Rattle.sot_workers.specs.Lists.{AreEmpty, HaveRoomIn}
 use Rattle.sot_workers.specs.Pairs.{EachFrom}
 use Rattle.sot_workers.specs.Stations.{IsStationed}
 use Rattle.sot_workers.proofs.station.station_each.Given as goal
@@ -14,6 +15,7 @@ invariant-loop-place g l = record {
   ground : pass_ground l.pass ≡ pass_ground l.initial.pass;
   seen : pass_seen l.pass ≡ [];
   lists : AreEmpty (length l.flight.crews) l.lists.items;
+  drafts : HaveRoomIn (pass_ground l.initial.pass) (IsMineAmong l.place l.away.items) l.lists.items;
   count : vec_len l.stations ≡ l.place;
   same : vec_len l.away ≡ l.place;
   room : length l.flight.crews ≤ vec_capacity l.stations;
