@@ -1,5 +1,5 @@
 -- Between the crate's own functions: a search in a grid of the plant's state variables.
-use Rattle.std.specs.Prelude.{◌≡◌, ℕ, ◌+◌, ◌<◌, ◌≤◌, ℤ, pos, List, IfSome}
+use Rattle.std.specs.Prelude.{◌≡◌, ℕ, ◌+◌, ◌<◌, ◌≤◌, ◌⊎◌, ℤ, pos, true, List, IfSome}
 use Rattle.sot_lists.specs.Places.{At}
 use Rattle.sot_atoms.specs.declared.axis.Axis.{Axis}
 use Rattle.sot_atoms.specs.Grids.{Cut}
@@ -16,6 +16,10 @@ IsSearch s = s.grid.now.width ≡ asked_width s.ask.now
 -- what is the best so far has its shape, where there is something
 abbrev pub IsBest : ℕ → Best → Type 0
 IsBest width best = IfSome best.found (HasShape width)
+
+-- all grains were gone through, or coarser ones would find nothing better
+abbrev pub AreGoneThrough : Best → Type 0
+AreGoneThrough best = (best.done ≡ true) ⊎ (best.grains ≡ 64)
 
 -- the points before and now are those of boxes of so many sides
 abbrev pub AreWidePoints : ℕ → Points → Type 0

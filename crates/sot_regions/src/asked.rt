@@ -4,7 +4,7 @@ ghost use Rattle.std.specs.Prelude.{◌≡◌, ◌≤◌, ◌<◌, ℤ, List, le
 ghost use Rattle.sot_atoms.specs.Grids.{CutsHull};
 ghost use Rattle.sot_invariant_atoms.specs.Asking.{asked_width};
 ghost use Rattle.sot_regions.specs.Shapes.{AreWide, HasShape};
-ghost use Rattle.sot_regions.specs.Searches.{IsSearch, IsBest};
+ghost use Rattle.sot_regions.specs.Searches.{IsSearch, IsBest, AreGoneThrough};
 ghost use Rattle.sot_regions.specs.declared.found.RegionsFail.TheVariants.{SafeNone};
 
 use crate::cells::cells_of;
@@ -35,6 +35,9 @@ struct Best {
     times: u32,
     // whether some safe region had no safer one
     no_safer: bool,
+    // how many grains were gone through, and whether coarser ones would find nothing better
+    grains: u32,
+    done: bool,
 }
 
 // How many atoms of the narrowest grid the atoms of a set of a coarser one have.
@@ -77,7 +80,8 @@ fn improve(search: &Search<'_>, safe: Cover, worth: u64, best: &mut Best) -> Res
     requires some { 0 < length safe.boxes.items }
     requires few { length safe.boxes.items ≤ 256 }
     requires best { IsBest search.now.grid.now.width best.old }
-    ensures { OnOk result (IsBest search.now.grid.now.width best.new) }
+    ensures best { OnOk result (IsBest search.now.grid.now.width best.new) }
+    ensures grains { best.new.grains ≡ best.old.grains }
 {
     let grid = search.grid;
     let Cover { boxes, set } = safe;
@@ -101,22 +105,24 @@ fn improve(search: &Search<'_>, safe: Cover, worth: u64, best: &mut Best) -> Res
     Ok(())
 }
 
-// Looks for regions among the atoms of a closed set. Whether a coarser grain may find better ones.
+// Looks for regions among the atoms of a closed set.
 fn look(
     search: &Search<'_>,
     narrowest: &Grid,
     set: &AtomSet,
     best: &mut Best,
-) -> Result<bool, AllocError>
+) -> Result<(), AllocError>
     requires search { IsSearch search.now }
     requires narrowest { narrowest.now.width ≡ search.now.grid.now.width }
     requires best { IsBest search.now.grid.now.width best.old }
-    ensures { OnOk result (IsBest search.now.grid.now.width best.new) }
+    ensures best { OnOk result (IsBest search.now.grid.now.width best.new) }
+    ensures grains { best.new.grains ≡ best.old.grains }
 {
     let grid = search.grid;
     let most = worth_of(grid, narrowest, set);
     if most <= best.worth {
-        return Ok(false);
+        best.done = true;
+        return Ok(());
     }
     let sums = Sums::of(search.alloc, grid, set)?;
     let safe = cover_of(
@@ -130,7 +136,8 @@ fn look(
     if best.worth < worth && !safe.boxes.is_empty() {
         improve(search, safe, worth, best)?;
     }
-    Ok(best.worth < most && grid.total() > 1)
+    best.done = most <= best.worth || grid.total() <= 1;
+    Ok(())
 }
 
 /// The greatest closed set of atoms inside a region.
@@ -155,14 +162,14 @@ fn most_atoms(ask: &ModuleAsk<'_>) -> u64 {
     (MOST_ATOMS as u64).min(MOST_TICKS / ticks.max(1))
 }
 
-// Looks with the narrowest grains. Whether coarser ones may find better regions.
+// Looks with the narrowest grains.
 fn look_first(
     alloc: Global,
     ask: &ModuleAsk<'_>,
     narrowest: &Grid,
     set: &AtomSet,
     best: &mut Best,
-) -> Result<bool, AllocError>
+) -> Result<(), AllocError>
     requires narrowest { narrowest.now.width ≡ asked_width ask.now }
     requires best { IsBest (asked_width ask.now) best.old }
     ensures { OnOk result (IsBest (asked_width ask.now) best.new) }
@@ -178,7 +185,8 @@ fn look_first(
     look(&search, narrowest, set, best)
 }
 
-// Looks with coarser and coarser grains for better regions.
+// Looks with coarser and coarser grains for better regions, until none would find some. Want of
+// memory is never such an end.
 fn coarsen(
     alloc: Global,
     ask: &ModuleAsk<'_>,
@@ -189,24 +197,27 @@ fn coarsen(
     requires narrowest { narrowest.now.width ≡ asked_width ask.now }
     requires given { given.now.width ≡ asked_width ask.now }
     requires best { IsBest (asked_width ask.now) best.old }
-    ensures { OnOk result (IsBest (asked_width ask.now) best.new) }
+    ensures best { OnOk result (IsBest (asked_width ask.now) best.new) }
+    ensures through { OnOk result (AreGoneThrough best.new) }
 {
     let orders = orders(alloc, narrowest.width())?;
+    best.grains = 1;
     for times in 1..GRAINS {
-        let Some(grid) = narrowest.coarser(times) else {
-            break;
-        };
-        let set = closed_in(alloc, ask, &grid, given)?;
-        let search = Search {
-            alloc,
-            ask: &*ask,
-            grid: &grid,
-            times,
-            orders: &orders,
-        };
-        if !look(&search, narrowest, &set, best)? {
-            break;
+        if best.done {
+            return Ok(());
         }
+        if let Some(grid) = narrowest.coarser(times) {
+            let set = closed_in(alloc, ask, &grid, given)?;
+            let search = Search {
+                alloc,
+                ask: &*ask,
+                grid: &grid,
+                times,
+                orders: &orders,
+            };
+            look(&search, narrowest, &set, best)?;
+        }
+        best.grains = times + 1;
     }
     Ok(())
 }
@@ -300,6 +311,32 @@ fn with_levels(
     Ok(found)
 }
 
+// The best regions where all grains were gone through, with cells by levels.
+fn best_of(
+    alloc: Global,
+    ask: &ModuleAsk<'_>,
+    narrowest: &Grid,
+    best: Best,
+) -> Result<FoundRegions, RegionsFail>
+    requires narrowest { narrowest.now.width ≡ asked_width ask.now }
+    requires best { IsBest (asked_width ask.now) best }
+    requires through { AreGoneThrough best }
+    ensures shape { IfOk result (HasShape (asked_width ask.now)) }
+    ensures fail { IfErr result (λ e. (grain : List ℤ) → e ≡ SafeNone grain → ⊥) }
+{
+    let Best {
+        found,
+        times,
+        no_safer,
+        ..
+    } = best;
+    match found {
+        Some(found) => Ok(with_levels(alloc, ask, narrowest, times, found)?),
+        None if no_safer => Err(RegionsFail::SaferNone),
+        None => Err(RegionsFail::TooMany),
+    }
+}
+
 /// The best regions inside the given one, of whose atoms on the narrowest grid these are closed.
 pub(crate) fn regions_from(
     alloc: Global,
@@ -318,19 +355,10 @@ pub(crate) fn regions_from(
         found: None,
         times: 0,
         no_safer: false,
+        grains: 0,
+        done: false,
     };
-    if look_first(alloc, ask, narrowest, set, &mut best)? {
-        coarsen(alloc, ask, given, narrowest, &mut best)?;
-    }
-    let Best {
-        found,
-        times,
-        no_safer,
-        ..
-    } = best;
-    match found {
-        Some(found) => Ok(with_levels(alloc, ask, narrowest, times, found)?),
-        None if no_safer => Err(RegionsFail::SaferNone),
-        None => Err(RegionsFail::TooMany),
-    }
+    look_first(alloc, ask, narrowest, set, &mut best)?;
+    coarsen(alloc, ask, given, narrowest, &mut best)?;
+    best_of(alloc, ask, narrowest, best)
 }
