@@ -4,7 +4,7 @@ use Rattle.std.specs.Prelude.{IfOk, IsTrue, ◌↔◌}
 use Rattle.std.proofs.lemmas.Option.{slice_get_within}
 use Rattle.std.specs.declared.alloc.AllocError.{AllocError}
 use Rattle.sot_lists.specs.Places.{At}
-use Rattle.sot_lists.proofs.Places.{at_below, at_same}
+use Rattle.sot_lists.proofs.Places.{at_below}
 use Rattle.sot_sections.specs.declared.mission.Need.TheVariants as needs
 use Rattle.sot_syntax_tree.specs.Trees.{Program}
 use Rattle.sot_parser.specs.Programs.{Spells}
@@ -15,9 +15,6 @@ use Rattle.sot_rules.specs.declared.fault.TypeFault.{TypeFault}
 use Rattle.sot_rules.specs.First.{IsFirstFault}
 use Rattle.sot_lang.specs.declared.cert.Cert.{Cert}
 use Rattle.sot_lang.specs.declared.tables.ModuleInfo.{ModuleInfo}
-use Rattle.sot_lang.specs.declared.tables.NodeInfo.{NodeInfo}
-use Rattle.sot_lang.specs.declared.tables.Slot.{Slot}
-use Rattle.sot_lang.specs.declared.tables.Slot.TheVariants.{State}
 use Rattle.sot_lang.specs.Tables.{Tables}
 use Rattle.sot_tube.specs.Refusals.{Refusal}
 use Rattle.sot_tube.specs.Verdict.{verdict}
@@ -28,19 +25,17 @@ use Rattle.sot_report.specs.RefusalTexts.{refusal_text}
 use Rattle.sot_certified_text.specs.ReadAgain.{IsCertificateFor, written_with_jitter}
 use Rattle.sot_regions_rewrite.specs.declared.modules.ModuleRegions.{ModuleRegions}
 use Rattle.sot_regions_rewrite.specs.OtherRegions.{with_regions}
-use Rattle.sot_law_invariant_regions.specs.Alone.{IsAlone}
-use Rattle.sot_regions.specs.declared.found.RegionsFail.{RegionsFail}
 use Rattle.sot_regions.specs.declared.found.RegionsFail.TheVariants as causes
 use Rattle.sot_regions_program.specs.Lines.{refusal_line}
 use Rattle.sot_regions_program.specs.declared.refusal.RegionsRefusal.{RegionsRefusal}
 use Rattle.sot_regions_program.specs.declared.refusal.RegionsRefusal.TheVariants.{Jitter, SafeNone}
-use Rattle.sot_regions_program.specs.declared.refusal.RegionsRefusal.TheVariants.{TooMany, SaferNone}
+use Rattle.sot_regions_program.specs.declared.refusal.RegionsRefusal.TheVariants.{TooMany, SaferNone, SafeNoneBeside}
 use Rattle.sot_cli.specs.declared.answer.Answer.{Answer}
 use Rattle.sot_regions_program.specs.AsAsked.{IsLate, as_asked, IsSearched}
 use Rattle.sot_regions_program.specs.Findings.{AreFirstFound, AreFound}
 use Rattle.sot_regions_program.specs.Shown.{verdict_of_some}
-use Rattle.sot_regions_program.specs.Answers.{StayInside, SpellsSafe, NamesModule, Answers, Replies}
-use Rattle.sot_regions_program.specs.Steps.{AnswersNone, AnswersFound, AnswersSearched, AnswersTree, TellsModule, TellsFail}
+use Rattle.sot_regions_program.specs.Answers.{StayInside, SpellsSafe, IsAloneAt, NamesModule, Answers, Replies}
+use Rattle.sot_regions_program.specs.Steps.{AnswersNone, AnswersFound, AnswersSearched, AnswersAtLast, AnswersTree, TellsModule, TellsFail}
 use Rattle.sot_regions_program.proofs.Spelled.{spells_safe}
 
 -- what is said of the text of a program: `r` is what the call answers
@@ -84,15 +79,17 @@ pub refused_result : (r : Result Answer AllocError) (p : Program) (t : Tables) (
 refused_result (Ok a) p t jitter refusal in_time refuses status text = inr (inl (status, in_time, (refusal, refuses, text)))
 refused_result (Err e) p t jitter refusal in_time refuses status text = tt
 
-searched_answer : (p : Program) (t : Tables) (jitter status : ℕ) (text : List ℕ) → IsSearched t jitter → AnswersSearched p t jitter status text
+searched_answer : (p : Program) (t : Tables) (jitter status : ℕ) (text : List ℕ) → IsSearched t jitter → AnswersAtLast p t jitter status text
     → Answers p t jitter status text
-searched_answer p t jitter status text searched (inl (is, inl none)) = inr (inr (inl (is, searched, none)))
-searched_answer p t jitter status text searched (inl (is, inr refused)) = inr (inr (inr (inl (is, searched, refused))))
-searched_answer p t jitter status text searched (inr (inl (is, refused))) = inr (inr (inr (inr (inl (is, searched, refused)))))
-searched_answer p t jitter status text searched (inr (inr (is, found))) = inr (inr (inr (inr (inr (is, searched, found)))))
+searched_answer p t jitter status text searched (inl (inl (is, inl none), fails)) = inr (inr (inl (is, searched, fails is, none)))
+searched_answer p t jitter status text searched (inl (inl (is, inr refused), fails)) = inr (inr (inr (inl (is, searched, fails is, refused))))
+searched_answer p t jitter status text searched (inl (inr (inl (is, refused)), fails)) =
+    inr (inr (inr (inr (inl (is, searched, fails is, refused)))))
+searched_answer p t jitter status text searched (inl (inr (inr (is, found)), fails)) = inr (inr (inr (inr (inr (is, searched, inl found)))))
+searched_answer p t jitter status text searched (inr (is, given)) = inr (inr (inr (inr (inr (is, searched, inr given)))))
 
 pub searched_result : (r : Result Answer AllocError) (p : Program) (t : Tables) (jitter : ℕ) → IsSearched t jitter
-    → IfOk r (λ a. AnswersSearched p t jitter a.status a.text.items)
+    → IfOk r (λ a. AnswersAtLast p t jitter a.status a.text.items)
     → IfOk r (λ a. Answers p t jitter a.status a.text.items)
 searched_result (Ok a) p t jitter searched said = searched_answer p t jitter a.status a.text.items searched said
 searched_result (Err e) p t jitter searched said = tt
@@ -156,19 +153,16 @@ mission_result (Err e) p q t u regions cert same found inside has status text sp
 pub tells_module : (t : Tables) (m : ℕ) → m < length t.modules → (m ≡ m) × ((a : ModuleInfo) × At t.modules m a)
 tells_module t m less = (refl, at_below t.modules m less)
 
--- what is known where nothing is left of its safe region
-pub tells_grain : (t : Tables) (jitter m : ℕ) (grain : List ℤ) (fail : RegionsFail) → m < length t.modules → fail ≡ causes.SafeNone grain
-    → TellsFail t jitter m fail → TellsModule t jitter m (SafeNone m grain)
-tells_grain t jitter m grain fail less is tells =
+-- what is known where nothing is left of the safe region of one that no other plant concerns, and of one that others do
+pub tells_grain : (t : Tables) (jitter m : ℕ) (grain : List ℤ) → m < length t.modules → IsAloneAt t m → TellsFail t jitter m (causes.SafeNone grain)
+    → TellsModule t jitter m (SafeNone m grain)
+tells_grain t jitter m grain less alone tells =
     let a = at_below t.modules m less in
-    (refl, (a.0, a.1, λ unit alone. tells grain a.0 is unit a.1 alone))
+    (refl, alone, (a.0, a.1, λ unit. tells grain a.0 refl unit a.1 (alone a.0 a.1)))
 
--- the safe node of a module that no other plant concerns reads its own plant alone
-pub own_reads : (p : Tables) (m : ℕ) (a info : ModuleInfo) (sc : NodeInfo) (reads : List Slot) → At p.modules m a → At p.modules m info → At p.nodes info.sc sc
-    → reads ≡ sc.reads.items → IsAlone p a → (i k v : ℕ) → At reads i (State k v) → k ≡ info.plant
-own_reads p m a info sc reads at_a at at_sc same alone i k v at_read =
-    let own = subst (λ (x : ModuleInfo). IsAlone p x) (at_same p.modules m a info at_a at) alone in
-    own.reads_own sc k v at_sc (i, subst (λ (l : List Slot). At l i (State k v)) same at_read)
+pub tells_beside : (t : Tables) (jitter m : ℕ) (grain : List ℤ) → m < length t.modules → ¬ (IsAloneAt t m)
+    → TellsModule t jitter m (SafeNoneBeside m grain)
+tells_beside t jitter m grain less beside = (refl, beside, at_below t.modules m less)
 
 -- a jitter that was found below all periods
 pub in_time_of : (late : Bool) (t : Tables) (jitter : ℕ) → IsTrue late ↔ IsLate t jitter → late ≡ false → ¬ (IsLate t jitter)
@@ -177,7 +171,8 @@ in_time_of late t jitter is early has = (let yes = is.1 has in absurd cc)
 -- there are at least as many modules as come before one that is named
 pub told_few : (t : Tables) (jitter m : ℕ) (r : RegionsRefusal) → TellsModule t jitter m r → m ≤ length t.modules
 told_few t jitter m (Jitter j) tells = absurd tells
-told_few t jitter m (SafeNone n grain) (is, (a, at, more)) = (let less = slice_get_within t.modules m a at in omega (arith, less))
+told_few t jitter m (SafeNone n grain) (is, alone, (a, at, more)) = (let less = slice_get_within t.modules m a at in omega (arith, less))
+told_few t jitter m (SafeNoneBeside n grain) (is, beside, (a, at)) = (let less = slice_get_within t.modules m a at in omega (arith, less))
 told_few t jitter m (TooMany n) (is, (a, at)) = (let less = slice_get_within t.modules m a at in omega (arith, less))
 told_few t jitter m (SaferNone n) (is, (a, at)) = (let less = slice_get_within t.modules m a at in omega (arith, less))
 

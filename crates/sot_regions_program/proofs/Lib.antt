@@ -1,5 +1,7 @@
 -- what is looked at before regions are searched
 pub mod Late
+-- modules that no other plant concerns
+pub mod Own
 -- lists that grow
 pub mod Boxes
 -- regions that were found, and the tables with them
@@ -10,6 +12,7 @@ pub mod Searched
 pub mod Padded
 -- the mission that is written
 pub mod Spelled
+pub mod AsGiven
 -- modules that have no region
 pub mod NoRegions
 -- how a call ends

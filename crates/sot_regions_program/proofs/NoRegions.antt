@@ -1,17 +1,18 @@
 -- Where no held region lies in a safe region, no program with other regions has cells that show one there, and so no certificate.
-use Rattle.std.proofs.Common.{◌≡◌, ◌∙◌, ℕ, ◌<◌, ℤ, List, [], ◌∷◌, map, length, inl, refl, sym, ap, subst}
+use Rattle.std.proofs.Common.{◌≡◌, ◌∙◌, ℕ, zero, suc, ◌+◌, ◌<◌, ◌≤◌, ℤ, List, [], ◌∷◌, map, length, inl, refl, sym, ap, subst, arith}
 use Rattle.std.specs.Prelude.{◌≢◌}
 use Rattle.std.proofs.lemmas.List.{length-map}
 use Rattle.std.proofs.lemmas.Option.{slice_get_within}
 use Rattle.sot_lists.specs.Places.{At}
 use Rattle.sot_lists.proofs.Places.{at_mapped, at_below, at_same}
 use Rattle.sot_box.specs.Sides.{Side, AreOrdered}
-use Rattle.sot_box.specs.Boxes.{lows}
+use Rattle.sot_box.specs.Boxes.{lows, point_box}
 use Rattle.sot_box.specs.Regions.{IsInRegion}
 use Rattle.sot_box.proofs.Ranges.{lows_within}
 use Rattle.sot_syntax_tree.specs.Trees.{Module, Program}
 use Rattle.sot_lang.specs.declared.cert.Cert.{Cert}
 use Rattle.sot_lang.specs.declared.tables.ModuleInfo.{ModuleInfo}
+use Rattle.sot_lang.specs.declared.tables.PlantInfo.{PlantInfo}
 use Rattle.sot_lang.specs.Tables.{Tables}
 use Rattle.sot_lang.specs.TableRules.{MeetsTableRules}
 use Rattle.sot_typing.specs.Resolved.{ProgramTables, modules, plant_place, node_place, module_info, tables_of, AreTables}
@@ -22,19 +23,19 @@ use Rattle.sot_law_equal_tables.proofs.Tables.{tables_alike}
 use Rattle.sot_law_regions_rewrite.specs.WithoutRegions.{bare_module}
 use Rattle.sot_law_regions_rewrite.proofs.Tables.{plant_place_same, node_place_same, with_modules, bare_modules, bare_at}
 use Rattle.sot_law_invariant_regions.specs.Alone.{IsAlone}
-use Rattle.sot_law_invariant_regions.specs.Following.{HasNoHeldRegion}
+use Rattle.sot_law_invariant_regions.specs.Following.{StaysAmong, HeldStays, HasNoHeldRegion}
 use Rattle.sot_law_invariant_regions.specs.Shown.{IsShown}
 use Rattle.sot_law_invariant_regions.proofs.HeldRegions.{certified_shown, shown_is_held}
 use Rattle.sot_law_invariant_regions.proofs.Alone.{region_alike}
 use Rattle.sot_law_equal_verdicts.specs.ModuleLaws.{LookAlike, HaveOnePlant}
 use Rattle.sot_law_equal_verdicts.proofs.Looks.{run_alike, stays_alone}
 use Rattle.sot_regions_program.specs.declared.refusal.RegionsRefusal.{RegionsRefusal}
-use Rattle.sot_regions_program.specs.declared.refusal.RegionsRefusal.TheVariants.{Jitter, SafeNone, TooMany, SaferNone}
+use Rattle.sot_regions_program.specs.declared.refusal.RegionsRefusal.TheVariants.{Jitter, SafeNone, SafeNoneBeside, TooMany, SaferNone}
 use Rattle.sot_report.specs.Missions.{Resolves}
 use Rattle.sot_regions_program.specs.AsAsked.{IsSearched}
 use Rattle.sot_regions_program.specs.Findings.{IsInside}
 use Rattle.sot_regions_program.specs.Shown.{HaveRegions}
-use Rattle.sot_regions_program.specs.Answers.{HasOtherRegions, HasNoRegion, HasNoCells, IsReached, LeavesNothing, NamesModule}
+use Rattle.sot_regions_program.specs.Answers.{HasOtherRegions, HasNoRegion, HasNoCells, IsReached, IsAloneAt, LeavesNothing, NamesModule}
 use Rattle.sot_regions_program.specs.Steps.{TellsGrain, TellsModule}
 
 -- a region with a box has a point
@@ -116,21 +117,52 @@ module _ (p : Program) (t : Tables) (jitter m : ℕ) (a : ModuleInfo) (resolves 
 pub searched_boxes : (t : Tables) (jitter : ℕ) → IsSearched t jitter → HaveSafeBoxes t
 searched_boxes t jitter searched m a at = (searched.1.1.0 m a at).1.0
 
+-- a tube that stays among some points has done so after fewer ticks
+stays_shorter : (Points : List ℤ → Type 0) (plant : PlantInfo) (commands seen box : List Side) (k n : ℕ) → k ≤ n
+    → StaysAmong Points plant commands seen box n → StaysAmong Points plant commands seen box k
+stays_shorter Points plant commands seen box zero zero few stays = stays
+stays_shorter Points plant commands seen box zero (suc n) few stays = stays.0
+stays_shorter Points plant commands seen box (suc k) zero few stays = absurd (omega (arith, few))
+stays_shorter Points plant commands seen box (suc k) (suc n) few (lies, (b, next, more)) =
+    (lies, (b, next, stays_shorter Points plant commands seen b k n (omega (arith, few)) more))
+
+held_shorter : (Points : List ℤ → Type 0) (t : Tables) (jitter later : ℕ) (a : ModuleInfo) (box : List Side) → jitter ≤ later
+    → HeldStays Points t later a box → HeldStays Points t jitter a box
+held_shorter Points t jitter later a box less held = record {
+  plant = held.plant;
+  plant_is = held.plant_is;
+  sc = held.sc;
+  sc_is = held.sc_is;
+  acts = held.acts;
+  coded = held.coded;
+  fired = held.fired;
+  drafts = held.drafts;
+  hulls = held.hulls;
+  are = held.are;
+  stays = stays_shorter Points held.plant _ _ box (held.sc.period + jitter) (held.sc.period + later) (omega (arith, less)) held.stays;
+}
+
+-- so a module has no held region at a greater jitter either
+none_later : (t : Tables) (jitter later : ℕ) (a : ModuleInfo) → jitter ≤ later → HasNoHeldRegion t jitter a → HasNoHeldRegion t later a
+none_later t jitter later a less none region s held inside there =
+    none region s (λ x in_region. held_shorter (IsInRegion region) t jitter later a (point_box x) less (held x in_region)) inside there
+
 -- what is known of a module's held regions is known of its regions
 module _ (p : Program) (t : Tables) (jitter m : ℕ) (resolves : Resolves p t) (searched : IsSearched t jitter)
     (before : 0 < m → HaveRegions p t jitter m) where
-  leaves_nothing : (grain : List ℤ) → TellsGrain t jitter m grain → LeavesNothing p t jitter m grain
-  leaves_nothing grain (a, at, none) x at_x unit alone =
-      let own : IsAlone t a = subst (λ (y : ModuleInfo). IsAlone t y) (at_same t.modules m x a at_x at) alone in
+  leaves_nothing : (grain : List ℤ) → IsAloneAt t m → TellsGrain t jitter m grain → LeavesNothing p t jitter m grain
+  leaves_nothing grain alone (a, at, none) later unit less =
       let boxes = searched_boxes t jitter searched in (
-        has_no_cells p t jitter m a resolves boxes at own (none unit own),
-        has_no_region p t jitter m a resolves boxes at own (none unit own),
+        has_no_cells p t later m a resolves boxes at (alone a at) (none_later t jitter later a less (none unit)),
+        has_no_region p t later m a resolves boxes at (alone a at) (none_later t jitter later a less (none unit)),
       )
 
   pub names_module : (r : RegionsRefusal) → TellsModule t jitter m r → NamesModule p t jitter r
   names_module (Jitter j) tells = tells
-  names_module (SafeNone n grain) (is, tells) =
-      subst (λ (k : ℕ). IsReached p t jitter k × LeavesNothing p t jitter k grain) (sym is)
-      (((tells.0, tells.1), before), leaves_nothing grain tells)
+  names_module (SafeNone n grain) (is, alone, tells) =
+      subst (λ (k : ℕ). IsReached p t jitter k × IsAloneAt t k × LeavesNothing p t jitter k grain) (sym is)
+      (((tells.0, tells.1), before), alone, leaves_nothing grain alone tells)
+  names_module (SafeNoneBeside n grain) (is, beside, tells) =
+      subst (λ (k : ℕ). IsReached p t jitter k × (¬ (IsAloneAt t k))) (sym is) ((tells, before), beside)
   names_module (TooMany n) (is, tells) = subst (λ (k : ℕ). IsReached p t jitter k) (sym is) (tells, before)
   names_module (SaferNone n) (is, tells) = subst (λ (k : ℕ). IsReached p t jitter k) (sym is) (tells, before)

@@ -1,5 +1,5 @@
--- Words and bytes decide the status, where regions are not searched and where there are none.
-use Rattle.std.proofs.Common.{◌≡◌, ◌∙◌, ℕ, ◌<◌, ◌≤◌, ◌⊎◌, List, [], ◌∷◌, Option, None, Some, inl, inr, length, sym, ap, subst, arith, Global}
+-- Words and bytes decide the status, where regions are not searched, where there are none, and where halving makes cells.
+use Rattle.std.proofs.Common.{◌≡◌, ◌∙◌, ℕ, ◌<◌, ◌≤◌, ◌⊎◌, List, [], ◌∷◌, Option, None, Some, Ok, inl, inr, length, refl, sym, ap, subst, arith, Global}
 use Rattle.std.specs.Prelude.{String, IfSome}
 use Rattle.std.specs.Fmt.{decimal}
 use Rattle.std.proofs.lemmas.Fmt.{decimal_injective}
@@ -10,6 +10,8 @@ use Rattle.sot_rules.specs.First.{IsFaultless}
 use Rattle.sot_lists.specs.Places.{At}
 use Rattle.sot_lang.specs.declared.tables.ModuleInfo.{ModuleInfo}
 use Rattle.sot_lang.specs.Tables.{Tables}
+use Rattle.sot_lang.specs.TableRules.{MeetsTableRules}
+use Rattle.sot_lang.specs.declared.cert.Cert.{Cert}
 use Rattle.sot_typing.specs.Resolved.{NodeTable, ProgramTables, tables_seen, tables_of}
 use Rattle.sot_tube.specs.Checks.{and_then, for_each, IsExact}
 use Rattle.sot_tube.specs.Verdict.{composition, periods, outputs, boxes, code}
@@ -17,6 +19,8 @@ use Rattle.sot_tube.proofs.Exact.{and_then_exact, for_each_exact}
 use Rattle.sot_tube.proofs.VerdictExact.{composition_exact, periods_exact, outputs_exact, boxes_exact, code_exact}
 use Rattle.sot_law_equal_tables.proofs.Seen.{node_back, module_back}
 use Rattle.sot_law_equal_verdicts.proofs.Carried.{Carried, both_carried}
+use Rattle.sot_law_equal_verdicts.proofs.Answers.{answers_alike}
+use Rattle.sot_certify.specs.Certifying.{Certifies}
 use Rattle.sot_law_equal_verdicts.proofs.Conditions.{periods_carried, outputs_carried, modules_carried, nodes_carried, composition_carried}
 use Rattle.sot_report.specs.declared.fault.Fault.{Fault}
 use Rattle.sot_report.specs.declared.fault.Fault.TheVariants as faults
@@ -29,8 +33,9 @@ use Rattle.sot_cli.specs.Texts.{input_limit}
 use Rattle.sot_regions_program.specs.AsAsked.{IsLate, frame_as_asked, as_asked, IsSearched}
 use Rattle.sot_compose.specs.declared.looked.LookedAt.TheVariants.{SafeAlone}
 use Rattle.sot_compose.specs.Frames.{seen_with}
-use Rattle.sot_regions_program.specs.Answers.{HasOtherRegions, IsMissionOf, SpellsTyped, Answers, AnswersTyped, HasProgramFault, Replies}
-use Rattle.sot_regions_program.specs.Ends.{IsNotSearched, LacksRegion, Decides, AskSearch}
+use Rattle.sot_regions_program.specs.Answers.{HasOtherRegions, IsMissionOf, IsMissionAsGiven, SpellsTyped, SpellsSafe, Answers, AnswersTyped}
+use Rattle.sot_regions_program.specs.Answers.{HasProgramFault, Replies}
+use Rattle.sot_regions_program.specs.Ends.{IsNotSearched, LacksRegion, HasGivenMission, Decides, AskSearch}
 use Rattle.sot_regions_program.specs.Steps.{WordAnswer}
 use Rattle.sot_regions_program.proofs.NoRegions.{module_there}
 
@@ -106,16 +111,15 @@ low_of p t jitter status text (inr (inr (inr (inr (inl x))))) = (let is = x.0 in
 low_of p t jitter status text (inr (inr (inr (inr (inr x))))) = (let is = x.0 in omega (arith, is))
 
 -- a mission of a program shows that each of its modules has a region
-found_one : (bytes : List ℕ) (p q : Program) (t u : Tables) (j k : ℕ) (text : List ℕ) → j ≡ k → SpellsTyped bytes p t → SpellsTyped bytes q u
-    → LacksRegion p t k → IsMissionOf q u j text → ⊥
-found_one bytes p q t u j k text same typed typed' (m, a, at, none) found =
-    let safe = found.spelled in
+safe_one : (bytes : List ℕ) (p q changed : Program) (t u : Tables) (j k : ℕ) (text : List ℕ) → j ≡ k → SpellsTyped bytes p t → SpellsTyped bytes q u
+    → LacksRegion p t k → AreSameButForRegions q changed → SpellsSafe changed u j text → ⊥
+safe_one bytes p q changed t u j k text same typed typed' (m, a, at, none) but safe =
     let mission = safe.mission in
     let one : q ≡ p = spells_unique bytes 0 q p typed'.0 typed.0 in
     let has : HasOtherRegions p mission.program =
     record {
-      changed = with_regions found.regions q;
-      regions = subst (λ (x : Program). AreSameButForRegions x (with_regions found.regions q)) one (nothing_else found.regions q);
+      changed = changed;
+      regions = subst (λ (x : Program). AreSameButForRegions x changed) one but;
       places = safe.program;
     }
     in
@@ -124,6 +128,40 @@ found_one bytes p q t u j k text same typed typed' (m, a, at, none) found =
     none mission.program mission.tables mission.cert a b.0 has safe.spelled.resolved at b.1
     (safe.inside m a b.0 (subst (λ (l : List ModuleInfo). At l m a) modules at) b.1)
     (subst (λ (n : ℕ). IsWellCertified mission.tables n mission.cert) same safe.accepted)
+
+found_one : (bytes : List ℕ) (p q : Program) (t u : Tables) (j k : ℕ) (text : List ℕ) → j ≡ k → SpellsTyped bytes p t → SpellsTyped bytes q u
+    → LacksRegion p t k → IsMissionOf q u j text ⊎ IsMissionAsGiven q u j text → ⊥
+found_one bytes p q t u j k text same typed typed' lacks (inl found) =
+    safe_one bytes p q (with_regions found.regions q) t u j k text same typed typed' lacks (nothing_else found.regions q) found.spelled
+found_one bytes p q t u j k text same typed typed' lacks (inr given) =
+    safe_one bytes p q q t u j k text same typed typed' lacks refl given.spelled
+
+-- no period is 0
+never_late : (t : Tables) → MeetsTableRules t → ¬ (IsLate t 0)
+never_late t rules (inl (n, node, at, le)) = (let less = rules.typed.node_times n node at in absurd (omega (arith, less, le)))
+never_late t rules (inr (m, a, at, le)) = (let less = rules.typed.module_times m a at in absurd (omega (arith, less, le)))
+
+-- where a certificate is made for the given regions, no condition fails as asked
+asked_passes : (t : Tables) (cert : Cert) → Certifies t (Ok cert) → (as_asked t).Passes
+asked_passes t cert made =
+    let all = made.0 in
+    (all.0, ((λ m a at. (let one = all.1.0 m a at in (one.0, (one.1.0, one.1.0)))), all.1.1))
+
+-- and the status is 0
+given_one : (bytes : List ℕ) (j status : ℕ) (text : List ℕ) → j ≡ 0 → AnswersTyped status j bytes text → (p : Program) (t : Tables)
+    → SpellsTyped bytes p t → HasGivenMission t → status ≡ 0
+given_one bytes j status text zero (q, u, typed', answers) p t typed (cert, made) = by answers
+  where
+    there : Certifies u (Ok cert)
+    there = answers_alike t u (Ok cert) (one_look bytes p q t u typed typed') made
+
+    by : Answers q u j status text → status ≡ 0
+    by (inl (is, late, says)) = absurd (never_late u typed'.1.rules (subst (λ (n : ℕ). IsLate u n) zero late))
+    by (inr (inl (is, early, (r, refuses, says)))) = absurd ((asked_exact u).exclusive r refuses (asked_passes u cert there))
+    by (inr (inr (inl (is, searched, fails, more)))) = absurd (fails zero cert there)
+    by (inr (inr (inr (inl (is, searched, fails, more))))) = absurd (fails zero cert there)
+    by (inr (inr (inr (inr (inl (is, searched, fails, more)))))) = absurd (fails zero cert there)
+    by (inr (inr (inr (inr (inr x))))) = x.0
 
 -- what is answered to bytes, and what decides
 typed_one : (bytes : List ℕ) (j k status : ℕ) (text : List ℕ) → j ≡ k → AnswersTyped status j bytes text → (p : Program) (t : Tables) → SpellsTyped bytes p t
@@ -172,19 +210,25 @@ module _ (words : List (String Global)) (bytes : List ℕ) where
   one_status status s (inl (is, none)) (inl (is', none')) = is ∙ sym is'
   one_status status s (inl (is, none)) (inr (inl (is', (j, asks), long))) = absurd (none j asks)
   one_status status s (inl (is, none)) (inr (inr (inl (is', (j, asks), short, fault)))) = absurd (none j asks)
-  one_status status s (inl (is, none)) (inr (inr (inr (is', (j, asks, short, typed))))) = absurd (none j asks)
+  one_status status s (inl (is, none)) (inr (inr (inr (inl (is', (j, asks, short, typed)))))) = absurd (none j asks)
+  one_status status s (inl (is, none)) (inr (inr (inr (inr (is', asks, short, given))))) = absurd (none 0 asks)
   one_status status s (inr (inl (is, (j, asks), long))) (inl (is', none)) = absurd (none j asks)
   one_status status s (inr (inl (is, asks, long))) (inr (inl (is', asks', long'))) = is ∙ sym is'
   one_status status s (inr (inl (is, asks, long))) (inr (inr (inl (is', asks', short, fault)))) = absurd (omega (arith, long, short))
-  one_status status s (inr (inl (is, asks, long))) (inr (inr (inr (is', (j, asks', short, typed))))) = absurd (omega (arith, long, short))
+  one_status status s (inr (inl (is, asks, long))) (inr (inr (inr (inl (is', (j, asks', short, typed)))))) = absurd (omega (arith, long, short))
+  one_status status s (inr (inl (is, asks, long))) (inr (inr (inr (inr (is', asks', short, given))))) = absurd (omega (arith, long, short))
   one_status status s (inr (inr (j, asks, short, more))) (inl (is', none)) = absurd (none j asks)
   one_status status s (inr (inr (j, asks, short, more))) (inr (inl (is', asks', long))) = absurd (omega (arith, long, short))
   one_status status s (inr (inr (j, asks, short, (text, inl (p, t, typed, answers))))) (inr (inr (inl (is', asks', short', (f, has))))) =
       absurd (typed_faulty bytes p t f typed has)
   one_status status s (inr (inr (j, asks, short, (text, inr (is, more))))) (inr (inr (inl (is', asks', short', fault)))) = is ∙ sym is'
-  one_status status s (inr (inr (j, asks, short, (text, inl answers)))) (inr (inr (inr (is', (k, asks', short', (p, t, typed, cause)))))) =
+  one_status status s (inr (inr (j, asks, short, (text, inl answers)))) (inr (inr (inr (inl (is', (k, asks', short', (p, t, typed, cause))))))) =
       typed_one bytes j k status text (asks_once words j k asks asks') answers p t typed cause ∙ sym is'
-  one_status status s (inr (inr (j, asks, short, (text, inr (is, (f, has, says)))))) (inr (inr (inr (is', (k, asks', short', (p, t, typed, cause)))))) =
+  one_status status s (inr (inr (j, asks, short, (text, inr (is, (f, has, says)))))) (inr (inr (inr (inl (is', (k, asks', short', (p, t, typed, cause))))))) =
+      absurd (typed_faulty bytes p t f typed has)
+  one_status status s (inr (inr (j, asks, short, (text, inl answers)))) (inr (inr (inr (inr (is', asks', short', (p, t, typed, given)))))) =
+      given_one bytes j status text (asks_once words j 0 asks asks') answers p t typed given ∙ sym is'
+  one_status status s (inr (inr (j, asks, short, (text, inr (is, (f, has, says)))))) (inr (inr (inr (inr (is', asks', short', (p, t, typed, given)))))) =
       absurd (typed_faulty bytes p t f typed has)
 
   low_status : (status : ℕ) → Cause words bytes status → AskSearch words bytes → status ≤ 1

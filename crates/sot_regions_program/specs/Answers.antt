@@ -1,5 +1,5 @@
 -- What `soter_regions` answers to a jitter and the bytes of its input.
-use Rattle.std.specs.Prelude.{◌≡◌, ℕ, ◌<◌, ◌⊎◌, ℤ, List}
+use Rattle.std.specs.Prelude.{◌≡◌, ℕ, ◌<◌, ◌≤◌, ◌⊎◌, ℤ, List, Ok}
 use Rattle.sot_lists.specs.Places.{At}
 use Rattle.sot_sections.specs.declared.mission.Need.TheVariants as needs
 use Rattle.sot_syntax_tree.specs.Trees.{Program}
@@ -21,6 +21,7 @@ use Rattle.sot_report.specs.Missions.{Mission, Resolves, SpellsNone, SpellsMissi
 use Rattle.sot_report.specs.FaultTexts.{fault_text}
 use Rattle.sot_report.specs.RefusalTexts.{refusal_text}
 use Rattle.sot_certified_text.specs.ReadAgain.{written_with_jitter}
+use Rattle.sot_certify.specs.Certifying.{Certifies}
 use Rattle.sot_law_regions_rewrite.specs.WithoutRegions.{AreSameButForRegions}
 use Rattle.sot_law_invariant_regions.specs.Alone.{IsAlone}
 use Rattle.sot_regions.specs.Grains.{IsUnitGrain}
@@ -31,8 +32,9 @@ use Rattle.sot_regions_program.specs.declared.refusal.RegionsRefusal.{RegionsRef
 use Rattle.sot_regions_program.specs.declared.refusal.RegionsRefusal.TheVariants.{Jitter, SafeNone}
 use Rattle.sot_regions_program.specs.declared.refusal.RegionsRefusal.TheVariants.{TooMany}
 use Rattle.sot_regions_program.specs.declared.refusal.RegionsRefusal.TheVariants.{SaferNone}
+use Rattle.sot_regions_program.specs.declared.refusal.RegionsRefusal.TheVariants.{SafeNoneBeside}
 use Rattle.sot_regions_program.specs.AsAsked.{IsLate, as_asked, IsSearched}
-use Rattle.sot_regions_program.specs.Findings.{IsInside, AreFirstFound, AreFound}
+use Rattle.sot_regions_program.specs.Findings.{IsInside, HasBoxes, AreFirstFound, AreFound}
 use Rattle.sot_law_invariant_regions.specs.Shown.{IsShown}
 use Rattle.sot_regions_program.specs.Shown.{HaveRegions, verdict_of_some}
 
@@ -62,6 +64,21 @@ pub record IsMissionOf (p : Program) (t : Tables) (jitter : ℕ) (text : List �
   pub cert : Cert
   pub text_is : text ≡ written_with_jitter (with_regions regions p) tables cert
   pub spelled : SpellsSafe (with_regions regions p) t jitter text
+
+-- the text is the mission of the program as it was given, with firings on time, and with the cells
+-- into which `certify` halves the boxes of its regions
+pub record IsMissionAsGiven (p : Program) (t : Tables) (jitter : ℕ) (text : List ℕ) : Type 0 where
+  pub on_time : jitter ≡ 0
+  pub cert : Cert
+  pub made : Certifies t (Ok cert)
+  pub text_is : text ≡ written_with_jitter p t cert
+  pub boxes : (m : ℕ) (a : ModuleInfo) → At t.modules m a
+      → HasBoxes 256 a.safe × HasBoxes 256 a.safer
+  pub spelled : SpellsSafe p t jitter text
+
+-- with firings on time, halving the boxes of the given regions makes no certificate either
+abbrev pub HalvingFailsToo : Tables → ℕ → Type 0
+HalvingFailsToo t jitter = jitter ≡ 0 → (cert : Cert) → ¬ (Certifies t (Ok cert))
 
 -- a condition that speaks of no cells fails of the program as it was asked, the first in its
 -- order, and this is said
@@ -96,19 +113,24 @@ abbrev pub IsReached : Program → Tables → ℕ → ℕ → Type 0
 IsReached p t jitter m =
     ((a : ModuleInfo) × At t.modules m a) × (0 < m → HaveRegions p t jitter m)
 
--- nothing is left of the safe region of module m at this grain. Where that is one unit, and no
--- other plant concerns the module, it has no region
+-- no other plant concerns module m: its plant sees none, and its safe node reads none
+abbrev pub IsAloneAt : Tables → ℕ → Type 0
+IsAloneAt t m = (a : ModuleInfo) → At t.modules m a → IsAlone t a
+
+-- nothing is left of the safe region of module m, which no other plant concerns, at this grain.
+-- Where that is one unit, it has no region, at this jitter or a greater one
 abbrev pub LeavesNothing : Program → Tables → ℕ → ℕ → List ℤ → Type 0
 LeavesNothing p t jitter m grain =
-    (a : ModuleInfo) → At t.modules m a → IsUnitGrain grain → IsAlone t a
-    → HasNoCells p t jitter m × HasNoRegion p t jitter m
+    (later : ℕ) → IsUnitGrain grain → jitter ≤ later
+    → HasNoCells p t later m × HasNoRegion p t later m
 
 -- a line that names a module of the program: the first one of which no region was found, since
 -- those before it have regions
 abbrev pub NamesModule : Program → Tables → ℕ → RegionsRefusal → Type 0
 NamesModule p t jitter (Jitter j) = ⊥
 NamesModule p t jitter (SafeNone m grain) =
-    IsReached p t jitter m × LeavesNothing p t jitter m grain
+    IsReached p t jitter m × IsAloneAt t m × LeavesNothing p t jitter m grain
+NamesModule p t jitter (SafeNoneBeside m grain) = IsReached p t jitter m × (¬ (IsAloneAt t m))
 NamesModule p t jitter (TooMany m) = IsReached p t jitter m
 NamesModule p t jitter (SaferNone m) = IsReached p t jitter m
 
@@ -135,15 +157,19 @@ IsRefusedAsFound p t jitter text =
 -- what is answered to a program that breaks no rule of typing: at status 1 that the jitter is not
 -- below all periods; else the first condition that fails of the program as it was asked; else that
 -- no region was found of a module, or why the program with the found regions is refused: those of
--- the modules before such a one, or those of all. At status 0 its mission
+-- the modules before such a one, or those of all. Of these three each says besides that halving the
+-- given regions fails. At status 0 its mission, with regions that were found or as it was given
 abbrev pub Answers : Program → Tables → ℕ → ℕ → List ℕ → Type 0
 Answers p t jitter status text =
     ((status ≡ 1) × IsLate t jitter × (text ≡ refusal_line t (Jitter jitter)))
     ⊎ ((status ≡ 1) × (¬ (IsLate t jitter)) × IsRefusedAsAsked t text)
-    ⊎ ((status ≡ 1) × IsSearched t jitter × IsNotFound p t jitter text)
-    ⊎ ((status ≡ 1) × IsSearched t jitter × IsRefusedBefore p t jitter text)
-    ⊎ ((status ≡ 1) × IsSearched t jitter × IsRefusedAsFound p t jitter text)
-    ⊎ ((status ≡ 0) × IsSearched t jitter × IsMissionOf p t jitter text)
+    ⊎ ((status ≡ 1) × IsSearched t jitter × HalvingFailsToo t jitter × IsNotFound p t jitter text)
+    ⊎ ((status ≡ 1) × IsSearched t jitter × HalvingFailsToo t jitter
+    × IsRefusedBefore p t jitter text)
+    ⊎ ((status ≡ 1) × IsSearched t jitter × HalvingFailsToo t jitter
+    × IsRefusedAsFound p t jitter text)
+    ⊎ ((status ≡ 0) × IsSearched t jitter
+    × (IsMissionOf p t jitter text ⊎ IsMissionAsGiven p t jitter text))
 
 -- the bytes spell a program that breaks no rule of typing
 abbrev pub SpellsTyped : List ℕ → Program → Tables → Type 0

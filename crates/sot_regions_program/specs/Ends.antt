@@ -1,6 +1,6 @@
 -- How a call of `regions` may end: the status, and what was read and written.
 use Rattle.std.specs.Prelude.{◌≡◌, ◌≢◌, ℕ, ◌+◌, ◌<◌, ◌≤◌, ◌⊎◌, List, length, String}
-use Rattle.std.specs.Prelude.{IfSome}
+use Rattle.std.specs.Prelude.{IfSome, Ok}
 use Rattle.std.specs.Io.KnownBytes.{Keeps}
 use Rattle.std.proofs.Common.{Global}
 use Rattle.sot_ports.specs.Faults.{Rose}
@@ -8,9 +8,11 @@ use Rattle.sot_ports.specs.Outside.{Outside, Writes, WritesPart}
 use Rattle.sot_ports.specs.Whole.{ReadsAll, ReadsCount}
 use Rattle.sot_lists.specs.Places.{At}
 use Rattle.sot_syntax_tree.specs.Trees.{Program}
+use Rattle.sot_lang.specs.declared.cert.Cert.{Cert}
 use Rattle.sot_lang.specs.declared.tables.ModuleInfo.{ModuleInfo}
 use Rattle.sot_lang.specs.Tables.{Tables}
 use Rattle.sot_tube.specs.Refusals.{Refusal}
+use Rattle.sot_certify.specs.Certifying.{Certifies}
 use Rattle.sot_report.specs.declared.fault.Fault.{Fault}
 use Rattle.sot_regions_program.specs.Words.{Asks, AsksNone}
 use Rattle.sot_regions_program.specs.Lines.{usage_text}
@@ -56,8 +58,12 @@ abbrev pub LacksRegion : Program → Tables → ℕ → Type 0
 LacksRegion p t jitter =
     (m : ℕ) × (a : ModuleInfo) × At t.modules m a × HasNoRegion p t jitter m
 
--- the status that words and bytes alone decide: where regions are not searched, and where there are
--- none
+-- `certify` makes a certificate for the regions that the program was given
+abbrev pub HasGivenMission : Tables → Type 0
+HasGivenMission t = (cert : Cert) × Certifies t (Ok cert)
+
+-- the status that words and bytes alone decide: where regions are not searched, where there are
+-- none, and, with firings on time, where halving the given ones makes a certificate
 abbrev pub Decides : List (String Global) → List ℕ → ℕ → Type 0
 Decides words bytes status =
     ((status ≡ 2) × AsksNone words)
@@ -67,6 +73,8 @@ Decides words bytes status =
     ⊎ ((status ≡ 1) × ((jitter : ℕ) × Asks words jitter × (length bytes ≤ input_limit)
     × ((p : Program) × (t : Tables) × SpellsTyped bytes p t
     × (IsNotSearched t jitter ⊎ LacksRegion p t jitter))))
+    ⊎ ((status ≡ 0) × Asks words 0 × (length bytes ≤ input_limit)
+    × ((p : Program) × (t : Tables) × SpellsTyped bytes p t × HasGivenMission t))
 
 -- words and bytes for which they are
 abbrev pub AskSearch : List (String Global) → List ℕ → Type 0

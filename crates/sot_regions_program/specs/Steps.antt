@@ -22,6 +22,7 @@ use Rattle.sot_regions_program.specs.declared.refusal.RegionsRefusal.{RegionsRef
 use Rattle.sot_regions_program.specs.declared.refusal.RegionsRefusal.TheVariants.{Jitter, SafeNone}
 use Rattle.sot_regions_program.specs.declared.refusal.RegionsRefusal.TheVariants.{TooMany}
 use Rattle.sot_regions_program.specs.declared.refusal.RegionsRefusal.TheVariants.{SaferNone}
+use Rattle.sot_regions_program.specs.declared.refusal.RegionsRefusal.TheVariants.{SafeNoneBeside}
 use Rattle.sot_regions_program.specs.Words.{Asks, AsksNone}
 use Rattle.sot_regions_program.specs.Lines.{usage_text}
 use Rattle.sot_cli.specs.Steps.{InputAnswer, SilentWhere}
@@ -33,6 +34,7 @@ use Rattle.sot_regions_program.specs.Findings.{IsFinding}
 use Rattle.sot_law_regions_rewrite.specs.Fitting.{AreFitting}
 use Rattle.sot_regions_program.specs.Answers.{SpellsTyped, IsRefusedAsFound, IsMissionOf}
 use Rattle.sot_regions_program.specs.Answers.{Answers, IsNotFound, IsRefusedBefore, Replies}
+use Rattle.sot_regions_program.specs.Answers.{IsMissionAsGiven, HalvingFailsToo, IsAloneAt}
 use Rattle.sot_regions_program.specs.Ends.{AsksSome}
 
 -- some program that the bytes spell has these tables
@@ -92,23 +94,32 @@ abbrev pub AnswersSearched : Program → Tables → ℕ → ℕ → List ℕ →
 AnswersSearched p t jitter status text =
     AnswersNone p t jitter status text ⊎ AnswersFound p t jitter status text
 
+-- and what is said of it at last: the same, where halving fails too if there is no mission; or its
+-- mission as it was given
+abbrev pub AnswersAtLast : Program → Tables → ℕ → ℕ → List ℕ → Type 0
+AnswersAtLast p t jitter status text =
+    (AnswersSearched p t jitter status text × (status ≡ 1 → HalvingFailsToo t jitter))
+    ⊎ ((status ≡ 0) × IsMissionAsGiven p t jitter text)
+
 -- what is said of a program that a text spells
 abbrev pub AnswersTree : Program → ℕ → ℕ → List ℕ → Type 0
 AnswersTree p jitter status text =
     ((t : Tables) × Resolves p t × Answers p t jitter status text)
     ⊎ ((status ≡ 3) × ((fault : TypeFault) × IsFirstFault p fault × (text ≡ type_text fault)))
 
--- module m is there, and where nothing is left of its safe region at a grain of one unit, and no
--- other plant concerns it, no held region lies in it
+-- module m is there, and where nothing is left of its safe region at a grain of one unit, no held
+-- region lies in it
 abbrev pub TellsGrain : Tables → ℕ → ℕ → List ℤ → Type 0
 TellsGrain t jitter m grain =
-    (a : ModuleInfo) × At t.modules m a
-    × (IsUnitGrain grain → IsAlone t a → HasNoHeldRegion t jitter a)
+    (a : ModuleInfo) × At t.modules m a × (IsUnitGrain grain → HasNoHeldRegion t jitter a)
 
 -- a line that names module m, with what is known of its held regions
 abbrev pub TellsModule : Tables → ℕ → ℕ → RegionsRefusal → Type 0
 TellsModule t jitter m (Jitter j) = ⊥
-TellsModule t jitter m (SafeNone n grain) = (n ≡ m) × TellsGrain t jitter m grain
+TellsModule t jitter m (SafeNone n grain) =
+    (n ≡ m) × IsAloneAt t m × TellsGrain t jitter m grain
+TellsModule t jitter m (SafeNoneBeside n grain) =
+    (n ≡ m) × (¬ (IsAloneAt t m)) × ((a : ModuleInfo) × At t.modules m a)
 TellsModule t jitter m (TooMany n) = (n ≡ m) × ((a : ModuleInfo) × At t.modules m a)
 TellsModule t jitter m (SaferNone n) = (n ≡ m) × ((a : ModuleInfo) × At t.modules m a)
 

@@ -7,7 +7,9 @@
 //! crate: what was found is looked at and checked before it is written.
 #![tactic(auto)]
 
+mod alone;
 mod as_asked;
+mod as_given;
 mod before;
 mod finding;
 mod lines;

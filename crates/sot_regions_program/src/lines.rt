@@ -2,8 +2,8 @@
 
 ghost use Rattle.std.specs.Prelude.{◌≡◌, ◌++◌, codes, IfOk};
 ghost use Rattle.std.specs.Fmt.{decimal};
-ghost use Rattle.sot_report.specs.Pieces.{line, point_text};
-ghost use Rattle.sot_regions_program.specs.Lines.{usage_text, of_module, refusal_line};
+ghost use Rattle.sot_report.specs.Pieces.{line};
+ghost use Rattle.sot_regions_program.specs.Lines.{usage_text, of_module, at_grain, refusal_line};
 
 use crate::refusal::RegionsRefusal;
 use sot_box::Point;
@@ -40,14 +40,30 @@ fn module_front(alloc: Global, p: &Typed, module: u32) -> Result<Vec<u8>, AllocE
     Ok(text)
 }
 
-fn grain_line(alloc: Global, p: &Typed, module: u32, grain: &Point) -> Result<Vec<u8>, AllocError>
-    ensures { IfOk result (λ text. text.items
-        ≡ line (of_module p.now «module» ++ codes " safe none grain " ++ point_text grain.now)) }
+// `safe none grain (G1, G2)` of a module, which goes on.
+fn grain_front(alloc: Global, p: &Typed, module: u32, grain: &Point) -> Result<Vec<u8>, AllocError>
+    ensures { IfOk result (λ text. text.items ≡ at_grain p.now «module» grain.now) }
 {
     let mut text = module_front(alloc, p, module)?;
     put(&mut text, " safe none grain ")?;
     put_point(alloc, &mut text, grain)?;
+    Ok(text)
+}
+
+fn grain_line(alloc: Global, p: &Typed, module: u32, grain: &Point) -> Result<Vec<u8>, AllocError>
+    ensures { IfOk result (λ text. text.items ≡ line (at_grain p.now «module» grain.now)) }
+{
+    let mut text = grain_front(alloc, p, module, grain)?;
     text.push(b'\n')?;
+    Ok(text)
+}
+
+fn beside_line(alloc: Global, p: &Typed, module: u32, grain: &Point) -> Result<Vec<u8>, AllocError>
+    ensures { IfOk result (λ text. text.items
+        ≡ line (at_grain p.now «module» grain.now ++ codes " alone")) }
+{
+    let mut text = grain_front(alloc, p, module, grain)?;
+    put(&mut text, " alone\n")?;
     Ok(text)
 }
 
@@ -70,7 +86,8 @@ fn safer_line(alloc: Global, p: &Typed, module: u32) -> Result<Vec<u8>, AllocErr
 }
 
 /// The line of a refusal: `refused regions jitter J`, or `refused regions module NAME safe none
-/// grain (G1, G2)`, or the same with `safe TooMany` or `safer none` behind the name.
+/// grain (G1, G2)`, which may have `alone` behind it, or the same with `safe TooMany` or `safer
+/// none` behind the name.
 pub fn refusal_line(
     alloc: Global,
     p: &Typed,
@@ -81,6 +98,7 @@ pub fn refusal_line(
     match *refusal {
         RegionsRefusal::Jitter(jitter) => jitter_line(alloc, jitter),
         RegionsRefusal::SafeNone { module, grain } => grain_line(alloc, p, module, &grain),
+        RegionsRefusal::SafeNoneBeside { module, grain } => beside_line(alloc, p, module, &grain),
         RegionsRefusal::TooMany { module } => many_line(alloc, p, module),
         RegionsRefusal::SaferNone { module } => safer_line(alloc, p, module),
     }

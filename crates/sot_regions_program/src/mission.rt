@@ -14,14 +14,15 @@ ghost use Rattle.sot_regions_program.specs.Steps.{AreTablesOf, AreFindings, IsWr
 ghost use Rattle.sot_regions_program.specs.Steps.{AnswersFound};
 
 use crate::search::{Asked, Findings};
-use crate::typed::{TypedProgram, typed_with};
+use crate::typed::typed_with;
 use sot_certified_text::mission_with_jitter;
 use sot_cli::{Answer, refused};
 use sot_compose::check_all;
-use sot_lang::Cert;
+use sot_lang::{Cert, Typed};
 use sot_ports::Process;
 use sot_report::{LoadFail, load};
 use sot_sections::Need;
+use sot_syntax_tree::Program;
 use std::alloc::{AllocError, Global};
 use std::thread::Threads;
 
@@ -39,16 +40,21 @@ fn read_back(alloc: Global, text: &[u8]) -> Result<(), AllocError>
     }
 }
 
-// Status 0: the text of a program with its certificate, which spells a mission.
-fn written(alloc: Global, typed: &TypedProgram, cert: &Cert) -> Result<Answer, AllocError>
-    requires { IsCertificateFor (program_view typed.now.program) typed.now.tables cert.now }
+/// Status 0: the text of a program with its certificate, which spells a mission.
+pub fn written(
+    alloc: Global,
+    program: &Program,
+    tables: &Typed,
+    cert: &Cert,
+) -> Result<Answer, AllocError>
+    requires { IsCertificateFor (program_view program.now) tables.now cert.now }
     ensures status { IfOk result (λ answer. answer.status ≡ 0) }
     ensures text { IfOk result (λ answer. answer.text.items
-        ≡ written_with_jitter (program_view typed.now.program) typed.now.tables cert.now) }
+        ≡ written_with_jitter (program_view program.now) tables.now cert.now) }
     ensures spelled { IfOk result (λ answer.
         (m : Mission) × SpellsMission needs.Check 0 answer.text.items m) }
 {
-    let text = mission_with_jitter(alloc, &typed.program, &typed.tables, cert)?;
+    let text = mission_with_jitter(alloc, program, tables, cert)?;
     // Places have 32 bits: there is no room for a longer text.
     if text.len() >= u32::MAX as usize {
         return Err(AllocError);
@@ -81,7 +87,7 @@ pub fn mission_of<R: Threads + Sync>(
         modules: findings.cells,
     };
     match check_all(rt, &typed.tables, &cert) {
-        Ok(_accepted) => written(alloc, &typed, &cert),
+        Ok(_accepted) => written(alloc, &typed.program, &typed.tables, &cert),
         Err(refusal) => refused(alloc, &typed.tables, &refusal),
     }
 }

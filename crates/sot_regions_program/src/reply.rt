@@ -8,8 +8,10 @@ ghost use Rattle.sot_cli.specs.Texts.{input_limit};
 ghost use Rattle.sot_regions_program.specs.AsAsked.{IsSearched};
 ghost use Rattle.sot_regions_program.specs.Answers.{SpellsTyped, Answers, Replies};
 ghost use Rattle.sot_regions_program.specs.Steps.{AreTablesOf, AnswersSearched, AnswersTree};
+ghost use Rattle.sot_regions_program.specs.Steps.{AnswersAtLast};
 
 use crate::as_asked::{check_as_asked, is_late};
+use crate::as_given::or_as_given;
 use crate::before::{no_regions, none_of};
 use crate::mission::mission_of;
 use crate::refusal::RegionsRefusal;
@@ -46,6 +48,22 @@ fn searched<R: Threads + Sync>(
     }
 }
 
+// What is said of it at last.
+fn at_last<R: Threads + Sync>(rt: &R, alloc: Global, asked: Asked<'_>) -> Result<Answer, AllocError>
+    requires short { length asked.text.now ≤ input_limit }
+    requires tables { AreTablesOf asked.text.now asked.tables.now }
+    requires jitter { asked.jitter ≤ 999 }
+    requires searched { IsSearched asked.tables.now asked.jitter }
+    ensures { (p : Tree) → SpellsTyped asked.entry.text.now p asked.entry.tables.now → IfOk result
+        (λ answer. AnswersAtLast p asked.entry.tables.now asked.entry.jitter answer.status
+        answer.text.items) }
+{
+    match searched(rt, alloc, asked) {
+        Ok(found) => or_as_given(alloc, asked, found),
+        Err(error) => Err(error),
+    }
+}
+
 // What is said of a program that breaks no rule of typing.
 fn of_tables<R: Threads + Sync>(
     rt: &R,
@@ -66,7 +84,7 @@ fn of_tables<R: Threads + Sync>(
         return no_regions(alloc, tables, &RegionsRefusal::Jitter(asked.jitter));
     }
     match check_as_asked(tables) {
-        Ok(()) => searched(rt, alloc, asked),
+        Ok(()) => at_last(rt, alloc, asked),
         Err(refusal) => refused(alloc, tables, &refusal),
     }
 }

@@ -4,24 +4,25 @@ ghost use Rattle.std.specs.Prelude.{◌≡◌, ◌<◌, ◌≤◌, ℕ, List, Op
 ghost use Rattle.sot_lists.specs.Places.{At};
 ghost use Rattle.sot_lang.specs.declared.cert.Cells.{Cells};
 ghost use Rattle.sot_lang.specs.declared.tables.ModuleInfo.{ModuleInfo as Info};
-ghost use Rattle.sot_lang.specs.declared.tables.Slot.TheVariants.{State};
 ghost use Rattle.sot_lang.specs.Tables.{Tables};
 ghost use Rattle.sot_lang.specs.TableRules.{MeetsTableRules};
 ghost use Rattle.sot_traps.specs.Verdict.{HaveSafeBoxes};
 ghost use Rattle.sot_cli.specs.Texts.{input_limit};
 ghost use Rattle.sot_regions_program.specs.declared.search.SearchFail.TheVariants.{Memory};
-ghost use Rattle.sot_law_invariant_regions.specs.Alone.{IsAlone};
 ghost use Rattle.sot_regions_program.specs.Findings.{IsFinding};
+ghost use Rattle.sot_regions.specs.declared.found.RegionsFail.TheVariants.{SafeNone};
 ghost use Rattle.sot_regions_program.specs.Steps.{AreTablesOf, AreFindings, IsNone, TellsFail};
-ghost use Rattle.sot_regions_program.specs.Steps.{AreSearched};
+ghost use Rattle.sot_regions_program.specs.Steps.{TellsModule, AreSearched};
 
+use crate::alone::is_alone;
 use crate::finding::{Finding, finding_of};
 use crate::refusal::RegionsRefusal;
 use crate::typed::typed_with;
-use sot_lang::{Cells, Slot, Typed};
+use sot_box::Point;
+use sot_lang::{Cells, Typed};
 use sot_regions::{FoundRegions, RegionsFail, regions_of};
 use sot_regions_rewrite::ModuleRegions;
-use sot_rta::{module_at, node_at, plant_at};
+use sot_rta::module_at;
 use std::alloc::{AllocError, AllocFailed, Global};
 
 /// A program for which regions are asked: its text, its tables, and the jitter.
@@ -76,34 +77,6 @@ impl<T: Drop> From<AllocFailed<T>> for SearchFail {
     }
 }
 
-// Whether all states among these slots are those of one plant.
-fn are_own(reads: &[Slot], plant: u32) -> bool
-    ensures { ((i k v : ℕ) → At reads.now i (State k v) → k ≡ plant) → IsTrue result }
-{
-    for i in 0..reads.len() {
-        if let Slot::State { plant: other, .. } = reads[i] {
-            if other != plant {
-                return false;
-            }
-        }
-    }
-    true
-}
-
-// Whether a module's plant sees none, and its safe node reads no other plant.
-#[tactic(auto, using(sot_rta::proofs::Found::plant_there, sot_rta::proofs::Found::sc_there))]
-fn is_alone(p: &Typed, module: u32) -> bool
-    requires there { «module» < length p.now.modules }
-    requires rules { MeetsTableRules p.now }
-    ensures { (a : Info) → At p.now.modules «module» a → IsAlone p.now a → IsTrue result }
-{
-    let info = module_at(p, module);
-    if plant_at(p, info.plant).sees.len() > 0 {
-        return false;
-    }
-    are_own(&node_at(p, info.sc).reads, info.plant)
-}
-
 // Searches regions of a module, where those before it have these. A module that no other plant
 // concerns does not wait for them to be put into the tables.
 fn found_of(
@@ -130,16 +103,29 @@ fn found_of(
     }
 }
 
+// That nothing is left of the safe region of a module at a grain.
+fn nothing_left(p: &Typed, module: u32, grain: Point) -> RegionsRefusal
+    requires there { «module» < length p.now.modules }
+    requires rules { MeetsTableRules p.now }
+    ensures { (jitter : ℕ) → TellsFail p.now jitter «module» (SafeNone grain)
+        → TellsModule p.now jitter «module» result }
+{
+    if is_alone(p, module) {
+        RegionsRefusal::SafeNone { module, grain }
+    } else {
+        RegionsRefusal::SafeNoneBeside { module, grain }
+    }
+}
+
 // Why there are none, of this module.
-#[tactic(auto, using(crate::proofs::Forms::tells_module, crate::proofs::Forms::tells_grain))]
-fn named(module: u32, fail: RegionsFail) -> SearchFail
-    ensures { (t : Tables) (jitter : ℕ) → «module» < length t.modules
-        → TellsFail t jitter «module» fail → IsNone t jitter «module» result }
+fn named(p: &Typed, module: u32, fail: RegionsFail) -> SearchFail
+    requires there { «module» < length p.now.modules }
+    requires rules { MeetsTableRules p.now }
+    ensures { (jitter : ℕ) → TellsFail p.now jitter «module» fail
+        → IsNone p.now jitter «module» result }
 {
     match fail {
-        RegionsFail::SafeNone { grain } => {
-            SearchFail::NotFound(RegionsRefusal::SafeNone { module, grain })
-        }
+        RegionsFail::SafeNone { grain } => SearchFail::NotFound(nothing_left(p, module, grain)),
         RegionsFail::TooMany => SearchFail::NotFound(RegionsRefusal::TooMany { module }),
         RegionsFail::SaferNone => SearchFail::NotFound(RegionsRefusal::SaferNone { module }),
         RegionsFail::Memory => SearchFail::Memory,
@@ -167,7 +153,7 @@ fn search_one(
     ensures err { IfErr result (IsNone asked.entry.tables.now asked.entry.jitter «module») }
 {
     match found_of(alloc, asked, before, module) {
-        Err(fail) => Err(named(module, fail)),
+        Err(fail) => Err(named(asked.tables, module, fail)),
         Ok(found) => match finding_of(alloc, module_at(asked.tables, module), &found)? {
             Some(finding) => Ok(finding),
             None => Err(SearchFail::NotFound(RegionsRefusal::TooMany { module })),

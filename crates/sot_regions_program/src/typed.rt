@@ -27,8 +27,8 @@ pub struct TypedProgram {
     pub tables: Typed,
 }
 
-// The program that a text spells.
-fn spelled(alloc: Global, text: &[u8]) -> Result<Program, AllocError>
+/// The program that a text spells.
+pub fn spelled(alloc: Global, text: &[u8]) -> Result<Program, AllocError>
     requires short { length text.now ≤ input_limit }
     requires spelled { (p : Tree) × Spells text.now 0 p }
     ensures { IfOk result (λ program. Spells text.now 0 (program_view program)) }

@@ -8,7 +8,7 @@ use Rattle.sot_regions_program.proofs.mission.written.Goals as goal
 pub read_back-requires-clause-written : goal.read_back-requires-clause-written
 read_back-requires-clause-written c =
     subst IsWritten (sym c.deref.ensures.value)
-    (program_view c.args.typed.now.program, c.args.typed.now.tables, c.args.cert.now, c.requires, c.in_ok-text.ensures.text)
+    (program_view c.args.program.now, c.args.tables.now, c.args.cert.now, c.requires, c.in_ok-text.ensures.text)
 
 pub returns-clause-spelled : goal.returns-clause-spelled
 returns-clause-spelled c = subst (λ (b : List ℕ). (m : Mission) × SpellsMission needs.Check 0 b m) c.deref.ensures.value c.in_ok-read_back.ensures

@@ -6,8 +6,8 @@ pub returns-in-Ok : goal.returns-in-Ok
 returns-in-Ok g c = λ p typed.
     let t = c.args.asked.tables.now in
     let jitter = c.args.asked.jitter in
-    searched_result c.searched.result p t jitter (in_time_of c.is_late.result t jitter c.is_late.ensures c.if-is_late.false, c.in-Ok.ensures)
-    (c.searched.ensures p typed)
+    searched_result c.at_last.result p t jitter (in_time_of c.is_late.result t jitter c.is_late.ensures c.if-is_late.false, c.in-Ok.ensures)
+    (c.at_last.ensures p typed)
 
 pub returns-in-Err : goal.returns-in-Err
 returns-in-Err g c = λ p typed.
