@@ -88,7 +88,8 @@ module _ (g : Global) where
       on_the_ground j t (subst (λ q. At ((pos 0 ∷ []) ∷ q) j t) is at_t)
   rows_down (suc n) (first ∷ paths) zero j path t le holds from at at_t = absurd (omega (arith, from))
   rows_down n (first ∷ paths) (suc i) j path t le holds from at at_t =
-      let last : last_of (stairs_parts g) (pos n ∷ []) first ≡ pos (below n) ∷ [] = ap (λ q. last_of (stairs_parts g) (pos n ∷ []) q) (hold_down n first le holds.0) in
+      let last : last_of (stairs_parts g) (pos n ∷ []) first ≡ pos (below n) ∷ [] =
+      ap (λ q. last_of (stairs_parts g) (pos n ∷ []) q) (hold_down n first le holds.0) in
       rows_down (below n) paths i j path t (below_le n 2 (omega (arith, le))) (subst (λ s. AreHolds (stairs_parts g) s paths) last holds.1)
       (below_le n i from) at (subst (λ s. At (start_at (stairs_parts g) s paths i ∷ path) j t) last at_t)
 

@@ -193,7 +193,8 @@ module _ (g : Global) where
 
   keeps : KeepToThemselves (stairs_parts g) (0 ∷ [])
   keeps i has =
-      at_one (λ k i. ((c : List Side) × At (stairs_parts g).cells.closed.boxes i c × StaysSafer (stairs_parts g) c) × LandsIn (stairs_parts g) (Has (0 ∷ [])) i) 0
+      at_one (λ k i. ((c : List Side) × At (stairs_parts g).cells.closed.boxes i c × StaysSafer (stairs_parts g) c)
+      × LandsIn (stairs_parts g) (Has (0 ∷ [])) i) 0
       ((cell 0, refl, stays), lands (Has (0 ∷ [])) 0 (omega arith) (0, refl)) has.0 i has.1
 
   pub rank_of : (n : ℕ) → n ≤ 2 → HasRank (stairs_parts g) n n
