@@ -186,8 +186,13 @@ def about_certify(asked):
 
 
 def about_recover(asked):
+    """Each module without a rank."""
+    return [said for line in asked.whole.split('\n') if line.startswith('refused recover') for said in about_unrecovered(asked, line)]
+
+
+def about_unrecovered(asked, line):
     """A module without a rank: whether its safe node stops, a disturbance holds the plant away, or nothing of the kind was found."""
-    words, numbers = asked.answer.split(), asked.answer.partition('point ')[2]
+    words, numbers = line.split(), line.partition('point ')[2]
     plant = asked.plant_of(words[3])
     lines = [f'{numbers} is {point_words(plant, whole_numbers(numbers))}, a state of `safe` of {words[3]}']
     situation = runs.situation_of(asked.source, words[3])

@@ -126,6 +126,22 @@ def recovery_tells_its_causes_apart():
     want(runs.stays_away(runs.situation_of(program, 'nav'), [-30]) == 'noise', 'a wind as strong as the safe node does not hold the vehicle')
 
 
+def each_module_without_a_rank_is_explained():
+    """Of three vehicles those whose safe nodes stop at 3, outside the safer region."""
+    def vehicle(k, stop):
+        return (f'topic c{k}: int[-1..1] = 0;\nplant p{k} {{ state x: int; input c{k}; next x = x + c{k}; }}\n'
+                f'external f{k} period 1 offset 0 {{ reads p{k}; writes c{k}; }}\n'
+                f'node s{k} period 1 offset 0 {{ reads p{k}; writes c{k}; do {{ publish c{k} = if p{k}.x > {stop} then -1 else if p{k}.x < -2 then 1 else 0; }} }}\n'
+                f'module m{k} {{ ac f{k}; sc s{k}; period 1 offset 0; plant p{k}; safe [-4..4]; safer [-2..2]; }}\n')
+    cells = '{"closed":[[[-4,-4]],[[-3,-3]],[[-2,2]],[[3,3]],[[4,4]]],"reach":[[[-2,2]]]}'
+    certificate = ','.join(f'"m{k}":{cells}' for k in range(3))
+    text = ''.join(vehicle(k, stop) for k, stop in enumerate((3, 2, 3))) + f'%certificate\n{{"format":1,"modules":{{{certificate}}}}}\n'
+    status, out, err = run([SOTER, 'recover'], text, SOTER_HINTS='1')
+    want(status == 1 and out.count('refused recover') == 2, f'status {status}, {out!r}')
+    for k, named in ((0, True), (1, False), (2, True)):
+        want((f'let `s{k}` steer' in err) == named, err)
+
+
 FORMULAS = [
     ('brake == 1', ['the program has no `brake`', '^']),
     ('robot.w == 1.00', ['the program has no `robot.w`', '^']),
@@ -211,5 +227,6 @@ def fields_of_drafts_have_an_order():
 
 TESTS = (
     slips_in_programs_are_named, slips_in_values_are_named, codes_that_may_trap_are_named, programs_alone_are_led_to_regions, silent_safe_nodes_are_named,
-    recovery_tells_its_causes_apart, formulas_are_named, failing_moments_are_shown, lines_of_robots_are_named, fields_of_drafts_have_an_order,
+    recovery_tells_its_causes_apart, each_module_without_a_rank_is_explained, formulas_are_named, failing_moments_are_shown,
+    lines_of_robots_are_named, fields_of_drafts_have_an_order,
 )

@@ -1,5 +1,5 @@
 -- What is said of a mission's recovery.
-use Rattle.std.proofs.Common.{◌≡◌, ℕ, List, Result, Ok, Err, inl, inr, codes}
+use Rattle.std.proofs.Common.{◌≡◌, ℕ, List, Result, Ok, Err, inl, inr}
 use Rattle.std.specs.Prelude.{IfOk}
 use Rattle.std.specs.declared.alloc.AllocError.{AllocError}
 use Rattle.sot_sections.specs.declared.mission.Need.TheVariants as needs
@@ -12,22 +12,11 @@ use Rattle.sot_world.specs.Headline.{EveryRunIsSafe}
 use Rattle.sot_report.specs.declared.fault.Fault.{Fault}
 use Rattle.sot_report.specs.Missions.{Mission, HasFault}
 use Rattle.sot_report.specs.FaultTexts.{fault_text}
-use Rattle.sot_report.specs.RefusalTexts.{gap_line, refusal_text}
-use Rattle.sot_recovery_text.specs.Recovery.{FirstNever, IfNeverAt, IsNeverAt}
-use Rattle.sot_recovery_text.specs.declared.fail.RecoveryFail.{RecoveryFail}
-use Rattle.sot_recovery_text.specs.declared.fail.RecoveryFail.TheVariants.{Never, Memory}
+use Rattle.sot_report.specs.RefusalTexts.{refusal_text}
 use Rattle.sot_cli.specs.declared.answer.Answer.{Answer}
 use Rattle.sot_commands.specs.declared.words.Command.TheVariants.{Recover}
 use Rattle.sot_commands.specs.Answers.{SpellsFor, Replies}
 use Rattle.sot_commands.specs.Steps.{SaysRecovery, JudgesRecovery}
-
--- the first module that never recovers
-pub never_result : (r : Result Answer AllocError) (t : Tables) (c : Cert) (fail : RecoveryFail) → IfNeverAt fail (FirstNever t c) → IfOk r (λ a. a.status ≡ 1)
-    → IfOk r (λ a. IsNeverAt fail (λ m s. a.text.items ≡ gap_line (codes "recover") t m s))
-    → IfOk r (λ a. SaysRecovery t c a.status a.text.items)
-never_result (Ok a) t c (Never m point) first status text = inr (status, (m, point, first, text))
-never_result (Ok a) t c Memory first status text = absurd text
-never_result (Err e) t c fail first status text = tt
 
 -- what is said of an accepted program's modules is said of the program with its certificate, and so is a refusal
 pub recovery_result : (r : Result Answer AllocError) (t : Tables) (c : Cert) → IsWellCertified t c.jitter c → EveryRunIsSafe t c.jitter

@@ -232,7 +232,8 @@ Accepts guests (Soak n seed) bytes text = FliesWith IsSummaryOf 0 (made_text n s
 -- status 1. The bytes spell a mission that the checker refuses, and this is said; or, for `fly`, it
 -- is accepted, a plant starts outside its module's safer region, and this is said. `replay`: the
 -- same, or its trace is refused at a line, and this is said. `recover`: the mission is refused; or
--- it is accepted, and the first of its modules that has no rank is said with its point. `watch`: as
+-- it is accepted, and some module has no rank: each such one is said with its point, and behind them
+-- within how many holds each of the others recovers. `watch`: as
 -- `fly`, of a formula that has a meaning for the program; or the mission is flown, and the first
 -- moment at which the formula fails is said behind the trace. `certify`:
 -- they spell a program that breaks no rule of typing and has no certificate, and this is why.

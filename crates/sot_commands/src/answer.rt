@@ -1,6 +1,6 @@
 //! Answers: a status with the text that is written with it.
 
-ghost use Rattle.std.specs.Prelude.{◌≡◌, ◌≢◌, ℕ, codes, IfOk};
+ghost use Rattle.std.specs.Prelude.{◌≡◌, ◌≢◌, ℕ, IfOk};
 ghost use Rattle.sot_syntax_tree.specs.TreeViews.{program_view};
 ghost use Rattle.sot_lang.specs.CertRules.{FitsTables};
 ghost use Rattle.sot_print.specs.Canonical.{canonical};
@@ -11,10 +11,8 @@ ghost use Rattle.sot_commands.specs.Answers.{IsOutsideOf};
 ghost use Rattle.sot_commands.specs.WatchTexts.{formula_text};
 ghost use Rattle.sot_commands.specs.Words.{AreAsked};
 ghost use Rattle.sot_maker.specs.Missions.{mission_text as made_text};
-ghost use Rattle.sot_report.specs.RefusalTexts.{gap_line};
 ghost use Rattle.sot_report.specs.AcceptedTexts.{accepted_text};
 ghost use Rattle.sot_certified_text.specs.FailTexts.{fail_text};
-ghost use Rattle.sot_recovery_text.specs.Recovery.{IsNeverAt};
 
 use sot_certify::CertifyFail;
 use sot_cli::{Answer, fixed};
@@ -23,7 +21,6 @@ use sot_formula::MonitorFail;
 use sot_lang::{Cert, Typed};
 use sot_maker::make;
 use sot_print::print;
-use sot_recovery_text::{RecoveryFail, never_text};
 use sot_replay::LineKind;
 use sot_syntax_tree::Program;
 use std::alloc::{AllocError, Global};
@@ -149,20 +146,6 @@ pub fn refused_line(alloc: Global, line: u32, kind: LineKind) -> Result<Answer, 
         status: 1,
         text: text.into_bytes(),
     })
-}
-
-/// Status 1: the line of a module that never recovers.
-pub fn unrecovered(
-    alloc: Global,
-    program: &Typed,
-    fail: &RecoveryFail,
-) -> Result<Answer, AllocError>
-    ensures status { IfOk result (λ answer. answer.status ≡ 1) }
-    ensures text { IfOk result (λ answer. IsNeverAt fail.now (λ m s.
-        answer.text.items ≡ gap_line (codes "recover") program.now m s)) }
-{
-    let text = never_text(alloc, program, fail)?;
-    Ok(Answer { status: 1, text })
 }
 
 /// Status 1: the line that says why there is no certificate.

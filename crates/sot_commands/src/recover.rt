@@ -7,28 +7,29 @@ ghost use Rattle.sot_commands.specs.Answers.{Replies};
 ghost use Rattle.sot_commands.specs.Steps.{SaysRecovery, JudgesRecovery};
 ghost use Rattle.sot_commands.specs.declared.words.Command.TheVariants.{Recover as RecoverCommand};
 
-use crate::answer::unrecovered;
 use sot_cli::{Answer, faulty, refused};
 use sot_compose::check_all;
 use sot_lang::{Cert, Typed};
 use sot_ports::{Process, let_go};
-use sot_recovery_text::recovery_text;
+use sot_recovery_text::put_recovery;
 use sot_report::{LoadFail, load};
 use sot_sections::Need;
 use sot_tube::Accepted;
 use std::alloc::{AllocError, Global};
 use std::thread::Threads;
 
-// A line for each module, or the first one that never recovers.
+// A line for each module. Where some module never recovers, the status is 1.
 fn recover_accepted(alloc: Global, accepted: &Accepted<'_>) -> Result<Answer, AllocError>
     requires { FitsTables accepted.now.program accepted.now.cert }
     ensures { IfOk result (λ answer. SaysRecovery accepted.now.program accepted.now.cert
         answer.status answer.text.items) }
 {
-    match recovery_text(alloc, accepted) {
-        Ok(text) => Ok(Answer { status: 0, text }),
-        Err(fail) => unrecovered(alloc, accepted.typed(), &fail),
-    }
+    let mut text = Vec::new(alloc);
+    let all = put_recovery(alloc, &mut text, accepted)?;
+    Ok(Answer {
+        status: if all { 0 } else { 1 },
+        text,
+    })
 }
 
 // Checks a program with its certificate, and looks at its modules where it is accepted.

@@ -1,12 +1,12 @@
 -- What is told of tables that look the same.
-use Rattle.std.proofs.Common.{◌≡◌, ℕ, zero, suc, ◌+◌, ◌*◌, ◌<◌, ℤ, List, [], ◌∷◌, ◌++◌, Option, Some, None, length, map, codes, refl, sym, ap, ap₂, ◌∙◌}
-use Rattle.std.proofs.Common.{subst, arith}
+use Rattle.std.proofs.Common.{◌≡◌, ℕ, zero, suc, ◌+◌, ◌*◌, List, [], ◌∷◌, ◌++◌}
+use Rattle.std.proofs.Common.{Option, Some, None, length, map, codes, refl, sym, ap, ap₂, ◌∙◌}
+use Rattle.std.proofs.Common.{subst}
 use Rattle.std.specs.Prelude.{slice_get}
 use Rattle.std.specs.Option.{option_map_or}
 use Rattle.std.specs.Fmt.{decimal}
-use Rattle.std.proofs.lemmas.Option.{slice_get_within}
-use Rattle.sot_lists.proofs.Places.{at_below, same_list}
-use Rattle.sot_lists.proofs.Numbers.{by_order}
+use Rattle.sot_lists.specs.Places.{Has}
+use Rattle.sot_lists.proofs.Places.{same_list}
 use Rattle.sot_lang.specs.declared.cert.Cert.{Cert}
 use Rattle.sot_lang.specs.declared.tables.ModuleInfo.{ModuleInfo}
 use Rattle.sot_lang.specs.declared.tables.NodeInfo.{NodeInfo}
@@ -18,9 +18,9 @@ use Rattle.sot_law_equal_ranks.proofs.Parts.{turned}
 use Rattle.sot_law_equal_ranks.proofs.Ranks.{one_answer}
 use Rattle.sot_lang.specs.Names.{module_name}
 use Rattle.sot_report.specs.Pieces.{line}
-use Rattle.sot_report.specs.RefusalTexts.{gap_line, at_point}
-use Rattle.sot_recovery_text.specs.Lines.{safe_period, recover_line, recover_lines}
-use Rattle.sot_recovery_text.specs.Recovery.{Recovers, NeverRecovers, AllRecover, FirstNever, SomeNever}
+use Rattle.sot_report.specs.RefusalTexts.{at_point}
+use Rattle.sot_recovery_text.specs.Lines.{Outcome, Within, Never, safe_period, recover_line, line_within, line_never, recover_lines, never_lines}
+use Rattle.sot_recovery_text.specs.Recovery.{HasOutcome, TellsAll, AllRecover, SomeNever}
 use Rattle.sot_recovery_text.specs.Laws.{ToldOnce}
 
 -- the period at a place of nodes that look the same
@@ -58,44 +58,50 @@ module _ (t u : Tables) (same : tables_seen t ≡ tables_seen u) where
   line_same i j m n is = λ x.
       codes "recover " ++ (name_same m x ++ (codes " holds " ++ (decimal n ++ (codes " ticks " ++ line (decimal (n * (period_same m x + is x)))))))
 
-  lines_same : (i j m : ℕ) (ns : List ℕ) → i ≡ j → recover_lines t i m ns ≡ recover_lines u j m ns
-  lines_same i j m [] is = refl
-  lines_same i j m (n ∷ ns) is = ap₂ (λ (a b : List ℕ). a ++ b) (line_same i j m n is) (lines_same i j (m + 1) ns is)
+  within_same : (i j m : ℕ) (o : Outcome) → i ≡ j → line_within t i m o ≡ line_within u j m o
+  within_same i j m (Within n) is = line_same i j m n is
+  within_same i j m (Never s) is = refl
 
-  gap_same : (m : ℕ) (s : List ℤ) → gap_line (codes "recover") t m s ≡ gap_line (codes "recover") u m s
-  gap_same m s = λ x. line (codes "refused " ++ codes "recover" ++ (codes " module " ++ name_same m x) ++ at_point s)
+  never_same : (m : ℕ) (o : Outcome) → line_never t m o ≡ line_never u m o
+  never_same m (Within n) = refl
+  never_same m (Never s) = λ x. line (codes "refused " ++ codes "recover" ++ (codes " module " ++ name_same m x) ++ at_point s)
 
--- one module does not recover by the one and never by the other
-both : (t u : Tables) (c d : Cert) → LookTheSame t u c d → (m n : ℕ) (s : List ℤ) → Recovers t c m n → NeverRecovers u d m s → ⊥
-both t u c d same m n s r never = (one_answer t u c d m r.parts never.parts same).2 n s r.rank never.none
+  recover_lines_same : (i j m : ℕ) (os : List Outcome) → i ≡ j → recover_lines t i m os ≡ recover_lines u j m os
+  recover_lines_same i j m [] is = refl
+  recover_lines_same i j m (o ∷ os) is = ap₂ (λ (a b : List ℕ). a ++ b) (within_same i j m o is) (recover_lines_same i j (m + 1) os is)
 
--- a module of the one that never recovers does not stand before that of the other
-not_before : (t u : Tables) (c d : Cert) → LookTheSame t u c d → (m k : ℕ) (s r : List ℤ) → FirstNever t c m s → FirstNever u d k r → k < m → ⊥
-not_before t u c d same m k s r a b less = (let x = a.earlier k less in both t u c d same k x.0 r x.1 b.never)
+  never_lines_same : (m : ℕ) (os : List Outcome) → never_lines t m os ≡ never_lines u m os
+  never_lines_same m [] = refl
+  never_lines_same m (o ∷ os) = ap₂ (λ (a b : List ℕ). a ++ b) (never_same m o) (never_lines_same (m + 1) os)
+
+-- a module has one outcome, whichever of the tables is asked
+one_outcome : (t u : Tables) (c d : Cert) → LookTheSame t u c d → (m : ℕ) (x y : Outcome) → HasOutcome t c m x → HasOutcome u d m y → x ≡ y
+one_outcome t u c d same m (Within n) (Within k) a b = ap Within ((one_answer t u c d m a.parts b.parts same).0 n k a.rank b.rank)
+one_outcome t u c d same m (Never s) (Never r) a b = ap Never ((one_answer t u c d m a.parts b.parts same).1 s r a.none b.none)
+one_outcome t u c d same m (Within n) (Never r) a b = absurd ((one_answer t u c d m a.parts b.parts same).2 n r a.rank b.none)
+one_outcome t u c d same m (Never s) (Within k) a b = absurd ((one_answer u t d c m b.parts a.parts (turned t u c d same)).2 k s b.rank a.none)
 
 module _ (t u : Tables) (c d : Cert) (text other : List ℕ) (same : LookTheSame t u c d) where
   modules_count : length t.modules ≡ length u.modules
   modules_count = ap (λ (ms : List ModuleInfo). length ms) (modules_same t u same.tables)
 
-  one_text : AllRecover t c text → AllRecover u d other → text ≡ other
-  one_text a b =
-      let ranks : a.ranks ≡ b.ranks = same_list a.ranks b.ranks (a.count ∙ modules_count ∙ sym b.count)
-      (λ m x y here there. (let p = a.each m x here in let q = b.each m y there in (one_answer t u c d m p.parts q.parts same).0 x y p.rank q.rank)) in
-      a.said ∙ lines_same t u same.tables c.jitter d.jitter 0 a.ranks same.jitter ∙ ap (recover_lines u d.jitter 0) ranks ∙ sym b.said
+  one_list : (os ps : List Outcome) → TellsAll t c os text → TellsAll u d ps other → os ≡ ps
+  one_list os ps a b = same_list os ps (a.are.count ∙ modules_count ∙ sym b.are.count)
+      (λ m x y here there. one_outcome t u c d same m x y (a.are.each m x here) (b.are.each m y there))
 
-  one_never : SomeNever t c text → SomeNever u d other → text ≡ other
-  one_never (m, s, a, is) (k, r, b, is') =
-      let places : m ≡ k = by_order m k (λ less. absurd (not_before u t d c (turned t u c d same) k m r s b a less))
-      (λ less. absurd (not_before t u c d same m k s r a b less)) (λ e. e) in
-      let here : NeverRecovers t c k s = subst (λ j. NeverRecovers t c j s) places a.never in
-      let points : s ≡ r = (one_answer t u c d k here.parts b.never.parts same).1 s r here.none b.never.none in
-      is ∙ gap_same t u same.tables m s ∙ (λ x. gap_line (codes "recover") u (places x) (points x)) ∙ sym is'
+  one_text : (os ps : List Outcome) → TellsAll t c os text → TellsAll u d ps other → text ≡ other
+  one_text os ps a b =
+      a.said
+      ∙ ap₂ (λ (x y : List ℕ). x ++ y) (never_lines_same t u same.tables 0 os) (recover_lines_same t u same.tables c.jitter d.jitter 0 os same.jitter)
+      ∙ ap (λ (l : List Outcome). never_lines u 0 l ++ recover_lines u d.jitter 0 l) (one_list os ps a b)
+      ∙ sym b.said
 
   never_both : AllRecover t c text → SomeNever u d other → ⊥
-  never_both a (m, s, b, is) =
-      let less : m < length u.modules = slice_get_within u.modules m b.never.parts.info b.never.parts.info_is in
-      let x = at_below a.ranks m (omega (arith, less, a.count, modules_count)) in
-      both t u c d same m x.0 s (a.each m x.0 x.1) b.never
+  never_both a b = a.all b.point (subst (λ (l : List Outcome). Has l (Never b.point)) (sym (one_list a.outcomes b.outcomes a.tells b.tells)) b.never)
 
 pub told_once : ToldOnce
-told_once t u c d text other same = (one_text t u c d text other same, one_never t u c d text other same, never_both t u c d text other same)
+told_once t u c d text other same = (
+  λ a b. one_text t u c d text other same a.outcomes b.outcomes a.tells b.tells,
+  λ a b. one_text t u c d text other same a.outcomes b.outcomes a.tells b.tells,
+  never_both t u c d text other same,
+)

@@ -1,17 +1,15 @@
-//! The lines of modules that recover, and the line of one that never does.
+//! A line for each module: within how many holds it recovers, or that it never does.
 
-ghost use Rattle.std.specs.Prelude.{◌≡◌, ◌++◌, ◌<◌, ◌≤◌, codes, length, IfOk, IfErr, OnOk};
+ghost use Rattle.std.specs.Prelude.{◌≡◌, [], ◌++◌, ◌<◌, ◌≤◌, codes, length, IfOk, OnOk, MatchBool};
 ghost use Rattle.sot_lang.specs.CertRules.{FitsTables};
 ghost use Rattle.sot_report.specs.RefusalTexts.{gap_line};
-ghost use Rattle.sot_recovery_text.specs.Recovery.{Recovers, NeverRecovers, FirstNever};
-ghost use Rattle.sot_recovery_text.specs.Recovery.{AllRecover, IfNeverAt, IsNeverAt};
+ghost use Rattle.sot_recovery_text.specs.Recovery.{AllRecover, SomeNever};
 ghost use Rattle.sot_recovery_text.specs.Lines.{safe_period, recover_line};
-ghost use Rattle.sot_recovery_text.specs.Steps.{TellsMore};
+ghost use Rattle.sot_recovery_text.specs.Steps.{TellsMore, IsNever};
 
-use crate::fail::{RecoveryFail, fail_of};
 use sot_box::Point;
 use sot_lang::Typed;
-use sot_recover::recover_within;
+use sot_recover::{RecoverFail, recover_within};
 use sot_report::{put, put_module, put_point};
 use sot_rta::module_at;
 use sot_tube::Accepted;
@@ -50,57 +48,6 @@ fn put_line(
     text.extend_from_slice(piece.as_bytes())
 }
 
-// Within how many holds a module recovers.
-fn holds_of(alloc: Global, acc: &Accepted<'_>, module: u32) -> Result<u32, RecoveryFail>
-    requires module_is { «module» < length acc.now.program.modules }
-    requires fits { FitsTables acc.now.program acc.now.cert }
-    ensures ok { IfOk result (λ n. Recovers acc.now.program acc.now.cert «module» n) }
-    ensures few { IfOk result (λ n. n ≤ 4096) }
-    ensures never { IfErr result (λ f. IfNeverAt f (λ m s. (m ≡ «module»)
-        × NeverRecovers acc.now.program acc.now.cert m s)) }
-{
-    // A look at the module brings the rules of the tables.
-    let _info = module_at(acc.typed(), module);
-    match recover_within(alloc, acc, module) {
-        Ok(holds) => Ok(holds),
-        Err(fail) => Err(fail_of(module, &fail)),
-    }
-}
-
-// Puts the line of a module.
-fn put_recovery(
-    alloc: Global,
-    text: &mut Vec<u8>,
-    acc: &Accepted<'_>,
-    module: u32,
-) -> Result<(), RecoveryFail>
-    requires module_is { «module» < length acc.now.program.modules }
-    requires fits { FitsTables acc.now.program acc.now.cert }
-    ensures ok { OnOk result (TellsMore acc.now.program acc.now.cert «module» text.old.items
-        text.new.items) }
-    ensures never { IfErr result (λ f. IfNeverAt f (λ m s. (m ≡ «module»)
-        × NeverRecovers acc.now.program acc.now.cert m s)) }
-{
-    let holds = holds_of(alloc, acc, module)?;
-    put_line(alloc, text, acc.typed(), acc.cert().jitter, module, holds)?;
-    Ok(())
-}
-
-/// `recover MODULE holds N ticks T` for each module, in order: it recovers within N holds of its
-/// safe node, which last T ticks at most. Else the first module that never does.
-pub fn recovery_text(alloc: Global, acc: &Accepted<'_>) -> Result<Vec<u8>, RecoveryFail>
-    requires { FitsTables acc.now.program acc.now.cert }
-    ensures ok { IfOk result (λ text. AllRecover acc.now.program acc.now.cert text.items) }
-    ensures never { IfErr result (λ f.
-        IfNeverAt f (FirstNever acc.now.program acc.now.cert)) }
-{
-    let mut text = Vec::new(alloc);
-    for module in 0..acc.typed().modules.len() as u32 {
-        put_recovery(alloc, &mut text, acc, module)?;
-    }
-    Ok(text)
-}
-
 // `refused recover module NAME point (X1, X2)`.
 fn never_line(alloc: Global, p: &Typed, module: u32, point: &Point) -> Result<Vec<u8>, AllocError>
     ensures { IfOk result (λ text.
@@ -115,14 +62,82 @@ fn never_line(alloc: Global, p: &Typed, module: u32, point: &Point) -> Result<Ve
     Ok(text)
 }
 
-/// The line of a module that never recovers, `refused recover module NAME point (X1, X2)`. Where
-/// memory was short there is none, and it is short again.
-pub fn never_text(alloc: Global, p: &Typed, fail: &RecoveryFail) -> Result<Vec<u8>, AllocError>
-    ensures { IfOk result (λ text. IsNeverAt fail.now (λ m s.
-        text.items ≡ gap_line (codes "recover") p.now m s)) }
+// The line of a module that never recovers. Where memory was short there is none, and it is short
+// again.
+fn fail_line(
+    alloc: Global,
+    p: &Typed,
+    module: u32,
+    fail: &RecoverFail,
+) -> Result<Vec<u8>, AllocError>
+    ensures { IfOk result (λ text. IsNever fail.now (λ s.
+        text.items ≡ gap_line (codes "recover") p.now «module» s)) }
 {
     match *fail {
-        RecoveryFail::Never { module, point } => never_line(alloc, p, module, &point),
-        RecoveryFail::Memory => Err(AllocError),
+        RecoverFail::Never { point } => never_line(alloc, p, module, &point),
+        RecoverFail::Memory => Err(AllocError),
     }
+}
+
+// Puts the line of a module that never recovers.
+fn put_never(
+    alloc: Global,
+    text: &mut Vec<u8>,
+    p: &Typed,
+    module: u32,
+    fail: &RecoverFail,
+) -> Result<(), AllocError>
+    ensures { OnOk result (IsNever fail.now (λ s. text.new.items
+        ≡ text.old.items ++ gap_line (codes "recover") p.now «module» s)) }
+{
+    let line = fail_line(alloc, p, module, fail)?;
+    text.extend_from_slice(&line)?;
+    Ok(())
+}
+
+// Finds within how many holds a module recovers, and puts its line: behind `never` where it has no
+// rank, and behind `within` where it has one.
+fn put_outcome(
+    alloc: Global,
+    acc: &Accepted<'_>,
+    module: u32,
+    never: &mut Vec<u8>,
+    within: &mut Vec<u8>,
+) -> Result<(), AllocError>
+    requires module_is { «module» < length acc.now.program.modules }
+    requires fits { FitsTables acc.now.program acc.now.cert }
+    ensures { OnOk result (TellsMore acc.now.program acc.now.cert «module» never.old.items
+        within.old.items never.new.items within.new.items) }
+{
+    let p = acc.typed();
+    // A look at the module brings the rules of the tables.
+    let _info = module_at(p, module);
+    match recover_within(alloc, acc, module) {
+        Ok(holds) => put_line(alloc, within, p, acc.cert().jitter, module, holds),
+        Err(fail) => put_never(alloc, never, p, module, &fail),
+    }
+}
+
+/// Puts a line for each module into an empty text. `refused recover module NAME point (X1, X2)`
+/// comes first, for each module that has no rank, in declared order. Behind these stands `recover
+/// MODULE holds N ticks T` for each of the others, in declared order: it recovers within N holds of
+/// its safe node, which last T ticks at most. True where all modules recover.
+pub fn put_recovery(
+    alloc: Global,
+    text: &mut Vec<u8>,
+    acc: &Accepted<'_>,
+) -> Result<bool, AllocError>
+    requires fits { FitsTables acc.now.program acc.now.cert }
+    requires empty { text.old.items ≡ [] }
+    ensures { IfOk result (λ all. MatchBool all
+        (AllRecover acc.now.program acc.now.cert text.new.items)
+        (SomeNever acc.now.program acc.now.cert text.new.items)) }
+{
+    let mut within = Vec::new(alloc);
+    for module in 0..acc.typed().modules.len() as u32 {
+        put_outcome(alloc, acc, module, text, &mut within)?;
+    }
+    let all = text.is_empty();
+    text.extend_from_slice(within.as_slice())?;
+    Ok(all)
 }
