@@ -1,0 +1,2 @@
+pub mod PartShapes
+pub mod Meanings
