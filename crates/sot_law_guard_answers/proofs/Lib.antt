@@ -1,0 +1,10 @@
+pub mod Parts
+pub mod Instants
+pub mod Moves
+pub mod Outsides
+pub mod Resumes
+pub mod Sessions
+pub mod Causes
+pub mod Talks
+pub mod Starts
+pub mod Begun
