@@ -1,10 +1,11 @@
 -- Worked lines of the running example, written out by hand.
-use Rattle.std.specs.Prelude.{◌≡◌, ℕ, pos, negsuc, List, [], ◌∷◌, codes}
+use Rattle.std.specs.Prelude.{◌≡◌, ℕ, pos, negsuc, List, [], ◌∷◌, ◌++◌, codes}
 use Rattle.std.specs.Global.{Global}
 use Rattle.sot_lang.specs.Line.{line}
 use Rattle.sot_lang.specs.Tables.{Tables}
 use Rattle.sot_guard_lines.specs.Lines.{hold_line, begins_line, ready_line, outside_line}
 use Rattle.sot_guard_lines.specs.Lines.{end_line}
+use Rattle.sot_guard_lines.specs.Outline.{outline_text}
 use Rattle.sot_guard_lines.specs.Lines.{resumed_line, refused_resume_line}
 use Rattle.sot_guard_lines.specs.Sayings.{Saying, ResumeSaid, IsSaid}
 
@@ -33,6 +34,14 @@ ReadyForATick g =
     × (ready_line (line g) 4 ≡ codes "4 ready")
     × (ready_line (line g) 4294967295 ≡ codes "4294967295 ready fast")
     × (ready_line (line g) 4294967299 ≡ codes "4294967299 ready fast")
+
+-- all that a robot has to know of it
+abbrev pub KnownToARobot : Global → Type 0
+KnownToARobot g =
+    outline_text (line g)
+    ≡ codes "says state pos x scale 0 range -9223372036854775808 9223372036854775807\n"
+    ++ (codes "says command pos cmd scale 0 range -2 2\nsays external fast\n"
+    ++ codes "says draft fast cmd scale 0 range -2 2\nsays module nav\nsays all\n")
 
 abbrev pub OtherLines : Type 0
 OtherLines = end_line 20 61 ≡ codes "end 20 events 61"

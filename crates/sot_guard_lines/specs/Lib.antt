@@ -1,5 +1,6 @@
 -- what the public contracts say
 pub mod Lines
+pub mod Outline
 pub mod Examples
 -- between the crate's own functions
 pub mod Sayings

@@ -4,6 +4,7 @@
 //! from outside, what an external node drafts, that an instant is over, that the models are to be
 //! trusted again, or where all plants were observed after a tick. Names and numbers are spelled as
 //! in a trace. [`numbers_of_lines`] takes the memory that all lines need, before the first.
+//! [`put_outline`] writes what a robot has to know of the program.
 //! [`put_hold`], [`put_ready`], [`put_outside`], [`put_resumed`], [`put_refused_resume`] and
 //! [`put_end`] write what the decision module says beside the lines of a trace.
 #![tactic(auto)]
@@ -12,6 +13,7 @@ mod facts;
 mod hold;
 mod laws;
 mod numbers;
+mod outline;
 mod place;
 mod read;
 mod ready;
@@ -23,6 +25,7 @@ pub use facts::lines_are_as_stated;
 pub use hold::put_hold;
 pub use laws::lines_say_once;
 pub use numbers::numbers_of_lines;
+pub use outline::put_outline;
 pub use read::read_said;
 pub use ready::{put_begins, put_ready};
 pub use resumed::{put_refused_resume, put_resumed};
