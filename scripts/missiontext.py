@@ -38,7 +38,8 @@ WRITES_SAID = r'(?: \w+(?:\.\w+)?[=!]-?\d+)*'
 TOLD = re.compile(rf'start \w+\({NUMBERS_SAID}\)|input \w+={NUMBERS_SAID}|draft \w+{WRITES_SAID}|go|resume'
                   rf'|tick(?: \w+\({NUMBERS_SAID}\))*', re.A)
 ANSWERED = re.compile(
-    rf'accepted|modules \d+ nodes \d+ cells \d+|\d+ input \w+={NUMBERS_SAID}|\d+ decide \w+ (?:ac|sc)'
+    r'accepted|modules \d+ nodes \d+ cells \d+|says (?:state|command|input|draft) \w+ \w+(?:\.\w+)? scale \d+ range -?\d+ -?\d+'
+    rf'|says (?:external|module) \w+|says all|\d+ input \w+={NUMBERS_SAID}|\d+ decide \w+ (?:ac|sc)'
     rf'|\d+ (?:fire|idle) \w+{WRITES_SAID}|\d+ hold \w+(?: \w+(?:\.\w+)?=-?\d+)*|\d+ (?:begins|ready)(?: \w+)*'
     r'|\d+ outside plant \w+ state \w+ \[-?\d+\.\.-?\d+\] observed -?\d+|\d+ ignored (?:draft|input|resume)(?: \w+)? \w+|\d+ blind \w+'
     r'|\d+ resumed|\d+ refused resume module \w+'
@@ -522,6 +523,8 @@ class Talk(Trace):
 
     def take_answer(self, number, words):
         """A line of the program."""
+        if words[0] == 'says':
+            return
         if words[0] == 'end':
             self.horizon = int(words[1])
         elif words[:2] == ['fault', 'observed']:

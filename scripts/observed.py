@@ -390,14 +390,33 @@ def parts_of(text):
     return text[:found.start()], [line if len(line) >= TOO_LONG else line.removesuffix('\r') for line in lines]
 
 
+def outline_of(meaning):
+    """What a robot has to know of a mission: each number that it tells or is told, with its decimals and its range."""
+    ranges, topics = meaning.ranges, meaning.declared.topics.values()
+    lines = []
+    for plant in meaning.plants:
+        lines += [f'state {plant.name} {state} scale {scale} range {LEAST} {MOST}' for state, scale in zip(plant.states, plant.scales)]
+        lines += [told_scalar('command', plant.name, name, ranges[name]) for name in plant.inputs]
+    lines += [told_scalar('input', topic.name, name, ranges[name]) for topic in topics if topic.outside for name in meaning.of_topic[topic.name]]
+    for node in meaning.nodes:
+        if node.body is None:
+            lines += [f'external {node.name}', *(told_scalar('draft', node.name, name, ranges[name]) for name in node.writes)]
+    lines += [f'module {module.name}' for module in meaning.modules]
+    return [f'says {line}' for line in [*lines, 'all']]
+
+
+def told_scalar(kind, owner, name, scalar):
+    return f'{kind} {owner} {name} scale {scalar.scale} range {scalar.lo} {scalar.hi}'
+
+
 def guard_of(mission):
-    """A guard of an accepted mission, and what `check` answers."""
+    """A guard of an accepted mission, and what is said before the first line of a robot."""
     sections = missiontext.Sections(mission)
     cert = missiontext.json_of(sections.parts['certificate'])
     meaning = Meaning(sections.parts['program'])
     cells = sum(len(entry['closed']) + len(entry['reach']) for entry in cert['modules'].values())
     accepted = ['accepted', f'modules {len(meaning.modules)} nodes {len(meaning.nodes)} cells {cells}']
-    return meaning, cert.get('jitter', 0), accepted
+    return meaning, cert.get('jitter', 0), accepted + outline_of(meaning)
 
 
 def answers(mission, lines):

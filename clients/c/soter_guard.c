@@ -37,6 +37,8 @@ struct soter_guard {
     int is_ready;             /* whether all lines of this instant were looked at */
     soter_guard_instant instant;
     size_t answer_length;     /* of the last instant, which stands in `answer` */
+    char *outline;            /* the lines `says ..` of the mission, each with its line end */
+    size_t outline_length, outline_room;
     char why[REASON];
     char due[ROOM + 1];       /* the names behind the last `begins` or `ready`, each between two blanks; empty before it */
     char trouble[REASON];
@@ -83,6 +85,120 @@ int soter_guard_mantissa(double value, int decimals, int64_t *mantissa)
     return SOTER_GUARD_DONE;
 }
 
+/* --- what the guard has said of the mission --------------------------------------------------- */
+
+/* Goes over a word and what ends it, and tells whether it was that word. */
+static int take_word(const char **at, const char *word)
+{
+    size_t length = strlen(word);
+
+    if (strncmp(*at, word, length) != 0 || ((*at)[length] != ' ' && (*at)[length] != '\n'))
+        return 0;
+    *at += length + 1;
+    return 1;
+}
+
+static const char *next_line(const char *line)
+{
+    return strchr(line, '\n') + 1;
+}
+
+/* What a line of this kind says of this owner, behind both; NULL where it is another line. */
+static const char *said_of(const char *line, const char *kind, const char *owner)
+{
+    return take_word(&line, "says") && take_word(&line, kind) && take_word(&line, owner) ? line : NULL;
+}
+
+/* The decimals that a line says behind the name of a number. */
+static int scale_in(const char *said)
+{
+    const char *scale = strchr(said, ' ') + 1;
+
+    return take_word(&scale, "scale") ? atoi(scale) : SOTER_GUARD_WRONG_USE;
+}
+
+/* Whether these are all numbers of this kind and owner, each with its decimals. */
+static int are_all(const soter_guard *guard, const char *kind, const soter_guard_numbers *numbers)
+{
+    const char *line, *said;
+    size_t found = 0;
+
+    for (line = guard->outline; *line != '\0'; line = next_line(line)) {
+        if ((said = said_of(line, kind, numbers->name)) == NULL)
+            continue;
+        if (found == numbers->count || numbers->decimals[found] != scale_in(said))
+            return 0;
+        found++;
+    }
+    return found > 0 && found == numbers->count;
+}
+
+/* Whether these are all plants in order, with all their states. */
+static int are_plants(const soter_guard *guard, const soter_guard_numbers *plants, size_t count)
+{
+    const char *line, *said;
+    size_t plant = 0, found = 0;
+
+    for (line = guard->outline; *line != '\0'; line = next_line(line)) {
+        said = line;
+        if (!take_word(&said, "says") || !take_word(&said, "state"))
+            continue;
+        if (plant < count && found == plants[plant].count) {
+            plant++;
+            found = 0;
+        }
+        if (plant == count || plants[plant].name == NULL || !take_word(&said, plants[plant].name)
+            || plants[plant].decimals[found] != scale_in(said))
+            return 0;
+        found++;
+    }
+    return count == 0 || (plant + 1 == count && found == plants[plant].count);
+}
+
+static int is_external(const soter_guard *guard, const char *node)
+{
+    const char *line;
+
+    for (line = guard->outline; *line != '\0'; line = next_line(line))
+        if (said_of(line, "external", node) != NULL)
+            return 1;
+    return 0;
+}
+
+/* Whether a node may draft these scalars, in its order, each with its decimals. */
+static int may_draft(const soter_guard *guard, const soter_guard_numbers *node, const char *const *scalars)
+{
+    const char *line, *said;
+    size_t found = 0;
+
+    for (line = guard->outline; *line != '\0' && found < node->count; line = next_line(line)) {
+        const char *name = said = said_of(line, "draft", node->name);
+        if (said == NULL || scalars[found] == NULL || !take_word(&said, scalars[found]))
+            continue;
+        if (node->decimals[found] != scale_in(name))
+            return 0;
+        found++;
+    }
+    return found == node->count;
+}
+
+int soter_guard_decimals(const soter_guard *guard, const char *kind, const char *owner, const char *name)
+{
+    const char *line, *said;
+
+    for (line = guard->outline; *line != '\0'; line = next_line(line)) {
+        const char *number = said = said_of(line, kind, owner);
+        if (said != NULL && take_word(&said, name))
+            return scale_in(number);
+    }
+    return SOTER_GUARD_WRONG_USE;
+}
+
+const char *soter_guard_outline(const soter_guard *guard)
+{
+    return guard->outline;
+}
+
 /* --- the line that is built ------------------------------------------------------------------- */
 
 static int put(soter_guard *guard, const char *text)
@@ -112,16 +228,16 @@ static int put_number(soter_guard *guard, int64_t number)
     return put(guard, digits + at);
 }
 
-static int is_name(const char *name, int may_have_point)
+static int is_name(const char *name)
 {
     size_t i;
 
-    if (name == NULL || name[0] == '\0' || (name[0] >= '0' && name[0] <= '9') || name[0] == '.')
+    if (name == NULL || name[0] == '\0' || (name[0] >= '0' && name[0] <= '9'))
         return 0;
     for (i = 0; name[i] != '\0'; i++) {
         char c = name[i];
         int is_letter = (c >= 'a' && c <= 'z') || (c >= 'A' && c <= 'Z') || c == '_';
-        if (!is_letter && !(c >= '0' && c <= '9') && !(may_have_point && c == '.'))
+        if (!is_letter && !(c >= '0' && c <= '9'))
             return 0;
     }
     return 1;
@@ -151,7 +267,7 @@ static int put_place(soter_guard *guard, const soter_guard_numbers *plant)
 {
     int result;
 
-    if (!is_name(plant->name, 0) || plant->count == 0)
+    if (!is_name(plant->name) || plant->count == 0)
         return SOTER_GUARD_WRONG_USE;
     if ((result = put(guard, " ")) != SOTER_GUARD_DONE || (result = put(guard, plant->name)) != SOTER_GUARD_DONE
         || (result = put(guard, "(")) != SOTER_GUARD_DONE || (result = put_numbers(guard, plant)) != SOTER_GUARD_DONE)
@@ -515,7 +631,45 @@ static size_t wait_line(soter_guard *guard, double end)
     return length;
 }
 
-/* Tells the mission, and waits for `accepted` and the line behind it. */
+/* Keeps a line that says something of the mission. */
+static int keep_said(soter_guard *guard, const char *line)
+{
+    size_t length = strlen(line), room = guard->outline_length + length + 2;
+    char *wider = guard->outline;
+
+    if (room > guard->outline_room) {
+        wider = (char *)realloc(guard->outline, 2 * room);
+        if (wider == NULL)
+            return lose(guard, "there is no memory");
+        guard->outline = wider;
+        guard->outline_room = 2 * room;
+    }
+    memcpy(wider + guard->outline_length, line, length);
+    guard->outline_length += length;
+    wider[guard->outline_length++] = '\n';
+    wider[guard->outline_length] = '\0';
+    return SOTER_GUARD_DONE;
+}
+
+/* Waits for all that is said of the mission, up to `says all`, and keeps it. Other lines are passed over. */
+static int hear_mission(soter_guard *guard, double end)
+{
+    int is_last = 0, result = SOTER_GUARD_DONE;
+    size_t length;
+
+    while (result == SOTER_GUARD_DONE && !is_last) {
+        if ((length = wait_line(guard, end)) == 0)
+            return SOTER_GUARD_LOST;
+        is_last = strcmp(guard->heard, "says all") == 0;
+        if (begins(guard->heard, "says "))
+            result = keep_said(guard, guard->heard);
+        if (result == SOTER_GUARD_DONE)
+            drop(guard, length);
+    }
+    return result;
+}
+
+/* Tells the mission, and waits for `accepted` and all that is said of it. */
 static int open_talk(soter_guard *guard)
 {
     const soter_guard_options *options = &guard->options;
@@ -536,10 +690,7 @@ static int open_talk(soter_guard *guard)
     if (strcmp(guard->heard, "accepted") != 0)
         return lose(guard, guard->heard);
     drop(guard, length);
-    if ((length = wait_line(guard, end)) == 0)
-        return SOTER_GUARD_LOST;
-    drop(guard, length);
-    return SOTER_GUARD_DONE;
+    return hear_mission(guard, end);
 }
 
 soter_guard *soter_guard_open(const soter_guard_options *options)
@@ -554,6 +705,7 @@ soter_guard *soter_guard_open(const soter_guard_options *options)
     guard->process = guard->to = guard->from = -1;
     guard->is_trusted = 1;
     if (open_talk(guard) != SOTER_GUARD_DONE) {
+        free(guard->outline);
         free(guard);
         return NULL;
     }
@@ -566,6 +718,8 @@ int soter_guard_start(soter_guard *guard, const soter_guard_numbers *plant)
 {
     int result = begin(guard, STARTS);
 
+    if (result == SOTER_GUARD_DONE && (!is_name(plant->name) || !are_all(guard, "state", plant)))
+        result = SOTER_GUARD_WRONG_USE;
     if (result == SOTER_GUARD_DONE)
         result = put(guard, "start");
     if (result == SOTER_GUARD_DONE)
@@ -603,7 +757,7 @@ int soter_guard_input(soter_guard *guard, const soter_guard_numbers *topic)
 {
     int result = begin_instant(guard);
 
-    if (result == SOTER_GUARD_DONE && (!is_name(topic->name, 0) || topic->count == 0))
+    if (result == SOTER_GUARD_DONE && (!is_name(topic->name) || !are_all(guard, "input", topic)))
         result = SOTER_GUARD_WRONG_USE;
     if (result != SOTER_GUARD_DONE || (result = put(guard, "input ")) != SOTER_GUARD_DONE
         || (result = put(guard, topic->name)) != SOTER_GUARD_DONE || (result = put(guard, "=")) != SOTER_GUARD_DONE
@@ -617,15 +771,14 @@ int soter_guard_draft(soter_guard *guard, const soter_guard_numbers *node, const
     int result = begin_instant(guard);
     size_t i;
 
-    if (result == SOTER_GUARD_DONE && !is_name(node->name, 0))
+    if (result == SOTER_GUARD_DONE
+        && (!is_name(node->name) || !is_external(guard, node->name) || !may_draft(guard, node, scalars)))
         result = SOTER_GUARD_WRONG_USE;
     if (result != SOTER_GUARD_DONE || (result = put(guard, "draft ")) != SOTER_GUARD_DONE
         || (result = put(guard, node->name)) != SOTER_GUARD_DONE)
         return result;
     for (i = 0; i < node->count; i++) {
         int64_t mantissa = 0;
-        if (!is_name(scalars[i], 1))
-            return SOTER_GUARD_WRONG_USE;
         result = soter_guard_mantissa(node->values[i], node->decimals[i], &mantissa);
         if (result != SOTER_GUARD_DONE || (result = put(guard, " ")) != SOTER_GUARD_DONE
             || (result = put(guard, scalars[i])) != SOTER_GUARD_DONE || (result = put(guard, "=")) != SOTER_GUARD_DONE
@@ -640,7 +793,7 @@ int soter_guard_draft_text(soter_guard *guard, const char *node, const char *tex
     int result = begin_instant(guard);
     size_t length, room;
 
-    if (result == SOTER_GUARD_DONE && !is_name(node, 0))
+    if (result == SOTER_GUARD_DONE && (!is_name(node) || !is_external(guard, node)))
         result = SOTER_GUARD_WRONG_USE;
     if (result != SOTER_GUARD_DONE || (result = put(guard, "draft ")) != SOTER_GUARD_DONE
         || (result = put(guard, node)) != SOTER_GUARD_DONE || (result = put(guard, " ")) != SOTER_GUARD_DONE)
@@ -747,7 +900,7 @@ int soter_guard_is_due(soter_guard *guard, const char *node)
     size_t length = strlen(node);
     const char *word = guard->due;
 
-    if (!is_name(node, 0) || wait_for_beginning(guard) != SOTER_GUARD_DONE)
+    if (!is_name(node) || wait_for_beginning(guard) != SOTER_GUARD_DONE)
         return 0;
     for (; (word = strstr(word, node)) != NULL; word += length)
         if (word > guard->due && word[-1] == ' ' && word[length] == ' ')
@@ -760,6 +913,8 @@ int soter_guard_tick(soter_guard *guard, const soter_guard_numbers *plants, size
     int result = begin(guard, TICK), told;
     size_t i;
 
+    if (result == SOTER_GUARD_DONE && !are_plants(guard, plants, count))
+        result = SOTER_GUARD_WRONG_USE;
     if (result == SOTER_GUARD_DONE)
         result = put(guard, "tick");
     for (i = 0; result == SOTER_GUARD_DONE && i < count; i++)
@@ -838,6 +993,7 @@ int soter_guard_close(soter_guard *guard)
         status = wait_end(guard);
     }
     stop(guard);
+    free(guard->outline);
     free(guard);
     return status;
 }

@@ -21,7 +21,8 @@ enum soter_guard_result {
     SOTER_GUARD_DONE = 0,
     SOTER_GUARD_LEFT_OUT = 1,   /* a draft, an input or a start has no number that can be told: nothing was told */
     SOTER_GUARD_UNSEEN = 2,     /* a tick was told as `tick lost`: the guard is blind then */
-    SOTER_GUARD_WRONG_USE = -1, /* a call out of turn, no name, or a line too long: nothing was told */
+    SOTER_GUARD_WRONG_USE = -1, /* a call out of turn, a name or decimals that the guard has not said, or a line too long:
+                                   nothing was told */
     SOTER_GUARD_LOST = -2       /* the guard is heard no more, and the fallback has been called */
 };
 
@@ -52,8 +53,17 @@ typedef struct {
     const char *trouble; /* the line `outside` or `blind`, in the instant in which it comes; NULL else */
 } soter_guard_instant;
 
-/* Starts the program, and waits until the mission is accepted. NULL where it is not; the fallback was called then. */
+/* Starts the program, and waits until the mission is accepted and the guard has said what it has. NULL where it is not
+ * accepted; the fallback was called then. */
 soter_guard *soter_guard_open(const soter_guard_options *options);
+
+/* What the guard has said of the mission: lines as `says state pos x scale 0 range LOW HIGH`, each with its line end.
+ * docs/FORMATS.md lists them. The text stands until the guard is closed. */
+const char *soter_guard_outline(const soter_guard *guard);
+
+/* The decimals of a `state` or `command` of a plant, an `input` of a topic, or a `draft` of a node, as they are said in
+ * those lines: 0 to 6, or SOTER_GUARD_WRONG_USE where there is no such number. */
+int soter_guard_decimals(const soter_guard *guard, const char *kind, const char *owner, const char *name);
 
 /* Where a plant was observed first: once for each plant, in the order of the mission. */
 int soter_guard_start(soter_guard *guard, const soter_guard_numbers *plant);

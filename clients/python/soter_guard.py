@@ -23,11 +23,12 @@ import re
 import select
 import subprocess
 import time
-from typing import Callable, Dict, List, Mapping, Optional, Sequence, Set, TextIO, Union
+from typing import Callable, Dict, List, Mapping, Optional, Sequence, Set, TextIO, Tuple, Union
 
 LEAST, MOST = -2 ** 63, 2 ** 63 - 1
 LONGEST = 65000       # bytes of a line that is told; the guard ends where one has 65,536
 LAST_TIME = 10 ** 12  # the time at which a talk ends
+LAST_SAID = 'says all'  # behind it nothing more is said of the mission
 UNSEEN = 'tick lost'  # says nothing to the guard, which is blind then
 AT_ONCE = 65536       # bytes that are read at once
 
@@ -68,27 +69,7 @@ def value_of(mantissa: int, decimals: int) -> Number:
     return mantissa / 10 ** decimals if decimals else mantissa
 
 
-# --- what is read of a mission --------------------------------------------------------------------
-
-NAME = r'[A-Za-z_][A-Za-z0-9_]*'
-TOPIC = re.compile(rf'(\benvironment\s+)?\btopic\s+({NAME})\s*:\s*(\{{[^}}]*\}}|[^=]*)=')
-FIELD = re.compile(rf'({NAME})\s*:\s*(?:int|bool|fix\s*\(\s*(\d+)\s*\))')
-PLANT = re.compile(rf'\bplant\s+({NAME})\s*\{{\s*state\s+([^;]*);(?:\s*input\s+([^;]*);)?')
-NODE = re.compile(rf'\b(node|external)\s+({NAME})\s+period\s+\d+\s+offset\s+\d+\s*\{{'
-                  r'(?:\s*reads\s+[^;]*;)?(?:\s*writes\s+([^;]*);)?')
-MODULE = re.compile(rf'\bmodule\s+({NAME})\s*\{{')
-
-
-@dataclasses.dataclass
-class Node:
-    """A node that drafts, and its scalars in the order of a draft."""
-    is_external: bool
-    scalars: List[str]
-
-
-def names_of(text: Optional[str]) -> List[str]:
-    return [name.strip() for name in text.split(',')] if text else []
-
+# --- what the guard says of a mission -------------------------------------------------------------
 
 def front_of(text: str) -> str:
     """The program and its certificate, without the sections behind them."""
@@ -100,48 +81,42 @@ def front_of(text: str) -> str:
 
 
 class Mission:
-    """What a client has to know of a mission that `soter check` accepts.
+    """What a client has to know of a mission, by the lines `says ..` of the guard. It reads no mission itself.
 
-    `decimals` has a count for each scalar and each state, by names as `cmd`, `pose.x` and `pos.x`. Formulas, bodies
-    and regions are passed over, and no fault is looked for: that does the guard.
+    `states` has the states of each plant, `inputs` the commands that hold it, `fields` the scalars of each environment
+    topic, and `drafts` those that each external node may draft, all in order. `decimals` and `ranges` have a count and
+    two mantissas for each scalar and each state, by names as `cmd`, `pose.x` and `pos.x`.
     """
 
-    def __init__(self, text: str, decimals: Optional[Mapping[str, int]] = None):
-        self.text = front_of(text)
-        said = re.sub(r'#[^\n]*', '', self.text.partition('\n%')[0])
+    def __init__(self, lines: Sequence[str]):
         self.decimals: Dict[str, int] = {}
-        self.fields = {found[2]: self._fields(found[2], found[3]) for found in TOPIC.finditer(said)}
-        self.environment = [found[2] for found in TOPIC.finditer(said) if found[1]]
-        self.inputs = {found[1]: self._scalars(found[3]) for found in PLANT.finditer(said)}
-        self.states = {found[1]: self._states(found[1], found[2]) for found in PLANT.finditer(said)}
-        self.nodes = {found[2]: self._node(found) for found in NODE.finditer(said)}
-        self.external = {name for name, node in self.nodes.items() if node.is_external}
-        self.modules = MODULE.findall(said)
-        for name, count in (decimals or {}).items():
-            if name not in self.decimals:
-                raise ValueError(f'the mission has no scalar and no state {name}')
-            self.decimals[name] = count
+        self.ranges: Dict[str, Tuple[int, int]] = {}
+        self.states: Dict[str, List[str]] = {}
+        self.inputs: Dict[str, List[str]] = {}
+        self.fields: Dict[str, List[str]] = {}
+        self.drafts: Dict[str, List[str]] = {}
+        self.modules: List[str] = []
+        for line in lines:
+            self._take(line.split(' ')[1:])
 
-    def _fields(self, topic: str, kind: str) -> List[str]:
-        """The scalars of a topic, in order."""
-        fields = FIELD.findall(kind) if kind.startswith('{') else FIELD.findall(f'{topic}: {kind}')
-        scalars = {f'{topic}.{name}' if kind.startswith('{') else topic: int(count or 0)
-                   for name, count in fields}
-        self.decimals.update(scalars)
-        return list(scalars)
+    def _take(self, words: List[str]) -> None:
+        """One line. A kind that is not known here is passed over, so that a later guard may say more."""
+        kind = words[0]
+        if kind == 'external':
+            self.drafts[words[1]] = []
+        elif kind == 'module':
+            self.modules.append(words[1])
+        elif kind in ('state', 'command', 'input', 'draft'):
+            self._take_number(*words)
 
-    def _states(self, plant: str, variables: str) -> List[str]:
-        """The states of a plant, in order."""
-        for name, count in FIELD.findall(variables):
-            self.decimals[f'{plant}.{name}'] = int(count or 0)
-        return [name for name, _ in FIELD.findall(variables)]
-
-    def _scalars(self, topics: Optional[str]) -> List[str]:
-        """The scalars of topics, one after another."""
-        return [scalar for topic in names_of(topics) for scalar in self.fields.get(topic, [])]
-
-    def _node(self, found: 're.Match[str]') -> Node:
-        return Node(found[1] == 'external', self._scalars(found[3]))
+    def _take_number(self, kind: str, owner: str, name: str, _: str, scale: str, __: str, low: str, high: str) -> None:
+        """A state of a plant, or a scalar of a plant, a topic or a node."""
+        if kind == 'state':
+            self.inputs.setdefault(owner, [])
+        among = {'state': self.states, 'command': self.inputs, 'input': self.fields, 'draft': self.drafts}[kind]
+        among.setdefault(owner, []).append(name)
+        full = f'{owner}.{name}' if kind == 'state' else name
+        self.decimals[full], self.ranges[full] = int(scale), (int(low), int(high))
 
 
 # --- what is heard --------------------------------------------------------------------------------
@@ -212,7 +187,7 @@ def instant_of(mission: Mission, lines: List[str], now: int, modes: Dict[str, st
     time, _, *instant.due = lines[-1].split(' ')
     if time != str(now):
         raise ValueError(f'the guard is at another time than {now}')
-    if not set(instant.due) <= mission.external:
+    if not set(instant.due) <= set(mission.drafts):
         raise ValueError('what is due is no external node')
     for plant, held in instant.mantissas.items():
         instant.held[plant] = {name: value_of(number, mission.decimals[name])
@@ -229,16 +204,15 @@ class Guard:
                  program: Union[str, Sequence[str]] = 'soter_guard', deadline: float = 0.1,
                  opening_deadline: float = 60.0, decimals: Optional[Mapping[str, int]] = None,
                  log: Union[str, 'os.PathLike[str]', None] = None):
-        """Starts the program with the mission of a file, and waits until it is accepted.
+        """Starts the program with the mission of a file, and waits until it is accepted and the guard has said what it has.
 
-        `fallback` brings the robot to rest without a guard, and is told why. `deadline` is the longest time in
+        `decimals` are counts that the robot takes for granted; ValueError where the mission has others. `fallback` brings the robot to rest without a guard, and is told why. `deadline` is the longest time in
         seconds for an answer, and `opening_deadline` that for the check of the mission. `log` is a file for both
         sides of the talk, as `scripts/picture` reads it.
         """
         with open(mission, encoding='latin-1', newline='') as file:
-            self.mission = Mission(file.read(), decimals)
+            front = front_of(file.read())
         self.deadline, self.time, self.is_trusted = deadline, 0, True
-        self.modes = dict.fromkeys(self.mission.modules, 'sc')
         self.due: Set[str] = set()
         self.lost: Optional[str] = None
         self._fallback, self._turn = fallback, 'start'
@@ -247,9 +221,13 @@ class Guard:
         self._log: Optional[TextIO] = None
         if log is not None:
             self._log = open(log, 'w', encoding='latin-1', newline='')
-        self._open([program] if isinstance(program, str) else list(program), opening_deadline)
+        self._open([program] if isinstance(program, str) else list(program), front, opening_deadline)
+        self.mission = self._said_of_mission()
+        self.modes = dict.fromkeys(self.mission.modules, 'sc')
+        for name, count in (decimals or {}).items():
+            self._want_decimals(name, count)
 
-    def _open(self, words: List[str], seconds: float) -> None:
+    def _open(self, words: List[str], front: str, seconds: float) -> None:
         try:
             self._process = subprocess.Popen(words, stdin=subprocess.PIPE, stdout=subprocess.PIPE,
                                              bufsize=0)
@@ -257,11 +235,27 @@ class Guard:
             self._lose(f'the program does not start: {why}')
         os.set_blocking(self._process.stdin.fileno(), False)
         os.set_blocking(self._process.stdout.fileno(), False)
-        self._tell(self.mission.text + '%observed\n')
-        self._pump(lambda: len(self._lines) >= 2, seconds)
+        self._tell(front + '%observed\n')
+        self._pump(lambda: self._lines and (self._lines[0] != 'accepted' or LAST_SAID in self._lines), seconds)
         if self._lines[0] != 'accepted':
             self._lose(f'the mission is not accepted: {self._lines[0]}')
-        del self._lines[:2]
+
+    def _said_of_mission(self) -> Mission:
+        """What the guard has said of the mission, up to the last line of that."""
+        end = self._lines.index(LAST_SAID)
+        said = [line for line in self._lines[:end] if line.startswith('says ')]
+        del self._lines[:end + 1]
+        try:
+            return Mission(said)
+        except (ValueError, TypeError, IndexError) as why:
+            self._lose(f'what the guard says of the mission is not understood: {why}')
+
+    def _want_decimals(self, name: str, count: int) -> None:
+        there = self.mission.decimals.get(name)
+        if there != count:
+            self.lost = 'the mission has other decimals'
+            self._stop()
+            raise ValueError(f'the mission has {"no" if there is None else there} decimals of {name}, and not {count}')
 
     def __enter__(self) -> 'Guard':
         return self
@@ -288,7 +282,7 @@ class Guard:
         self._say(''.join(lines))
         self._pump(lambda: self._lines, self.deadline)
         begun = self._lines.pop(0).split(' ')
-        if begun[:2] != ['0', 'begins'] or not set(begun[2:]) <= self.mission.external:
+        if begun[:2] != ['0', 'begins'] or not set(begun[2:]) <= set(self.mission.drafts):
             self._lose(f'the talk does not begin: {" ".join(begun)}')
         self.due = set(begun[2:])
 
@@ -307,7 +301,7 @@ class Guard:
     def input(self, topic: str, values: States) -> bool:
         """What came on an environment topic; False where it is left out, as it is no number."""
         self._want('instant')
-        if topic not in self.mission.environment:
+        if topic not in self.mission.fields:
             raise ValueError(f'the mission has no environment topic {topic}')
         told = self._told(self.mission.fields[topic], len(topic) + 1, values, topic)
         if told is None:
@@ -321,7 +315,7 @@ class Guard:
         It is left out, and False returned, where the node is not due, or a value is no number of 64 bits.
         """
         self._want('instant')
-        scalars = self._external(node).scalars
+        scalars = self._scalars_of(node)
         for name in wanted:
             if name not in scalars:
                 raise ValueError(f'{node} writes no {name}')
@@ -346,7 +340,7 @@ class Guard:
 
     def is_due(self, node: str) -> bool:
         """Whether an external node is due in this instant, or behind a `go` in the next, by what the guard said."""
-        self._external(node)
+        self._scalars_of(node)
         return node in self.due
 
     def resume(self) -> bool:
@@ -403,11 +397,11 @@ class Guard:
                              f'and not {", ".join(map(str, places))}')
         return list(self.mission.states)
 
-    def _external(self, name: str) -> Node:
-        node = self.mission.nodes.get(name)
-        if node is None or not node.is_external:
-            raise ValueError(f'the mission has no external node {name}')
-        return node
+    def _scalars_of(self, node: str) -> List[str]:
+        """What an external node may draft."""
+        if node not in self.mission.drafts:
+            raise ValueError(f'the mission has no external node {node}')
+        return self.mission.drafts[node]
 
     def _place_of(self, plant: str, values: States) -> Optional[str]:
         names = [f'{plant}.{state}' for state in self.mission.states[plant]]

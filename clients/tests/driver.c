@@ -3,7 +3,7 @@
  *
  *   start PLANT D V ..      input TOPIC D V ..      draft NODE SCALAR D V ..     tick PLANT D V .. / PLANT D V ..
  *   text NODE TEXT          go                      held PLANT SCALAR            mantissa D V
- *   due NODE                resume
+ *   due NODE                resume                  decimals KIND OWNER NAME
  *
  * D is a count of decimals and V a value. In a TEXT `\n` stands for a line end, and `*` for 70,000 digits. */
 #include <fcntl.h>
@@ -133,6 +133,11 @@ static int done(soter_guard *guard, const char *kind)
         return resume(guard);
     if (strcmp(kind, "due") == 0) {
         printf("due %d\n", soter_guard_is_due(guard, word()));
+        return SOTER_GUARD_DONE;
+    }
+    if (strcmp(kind, "decimals") == 0) {
+        char *of = word(), *owner = word();
+        printf("decimals %d\n", soter_guard_decimals(guard, of, owner, word()));
         return SOTER_GUARD_DONE;
     }
     if (strcmp(kind, "tick") == 0)

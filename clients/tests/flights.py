@@ -38,6 +38,14 @@ class Seen:
     held: dict
 
 
+def read_of(path):
+    """The front of a mission's file, what it means, and what a client is told of it."""
+    with open(path, encoding='latin-1', newline='') as file:
+        text = soter_guard.front_of(file.read())
+    meaning = observed.guard_of(text)[0]
+    return text, meaning, soter_guard.Mission(observed.outline_of(meaning))
+
+
 class PythonClient:
     """The client in Python."""
 
@@ -63,10 +71,10 @@ class CClient:
     """The client in C, by lines that a driver reads."""
 
     def __init__(self, mission, log, program, driver, deadline=PATIENCE):
-        self.mission = soter_guard.Mission(open(mission, encoding='latin-1', newline='').read())
+        text, _, self.mission = read_of(mission)
         self.front = log + '.mission'
         with open(self.front, 'w', encoding='latin-1', newline='') as file:
-            file.write(self.mission.text)
+            file.write(text)
         self.process = subprocess.Popen([*driver, self.front, log, str(deadline), *program], text=True,
                                         stdin=subprocess.PIPE, stdout=subprocess.PIPE, bufsize=1)
 
@@ -102,7 +110,7 @@ class CClient:
         return self.do('input', topic, *self.pairs(self.mission.fields[topic], values)) == ([], 0)
 
     def draft(self, node, wanted):
-        words = [word for name in self.mission.nodes[node].scalars if name in wanted
+        words = [word for name in self.mission.drafts[node] if name in wanted
                  for word in (name, *self.pairs([name], [wanted[name]]))]
         return self.do('draft', node, *words) == ([], 0)
 
@@ -144,10 +152,7 @@ class Flight:
     """A robot that moves by the formulas of a mission, with the commands that a client holds."""
 
     def __init__(self, mission, seed):
-        with open(mission, encoding='latin-1', newline='') as file:
-            self.text = soter_guard.front_of(file.read())
-        self.meaning = observed.guard_of(self.text)[0]
-        self.known = soter_guard.Mission(self.text)
+        self.text, self.meaning, self.known = read_of(mission)
         self.choice = random.Random(seed)
         self.points = [self.first(plant) for plant in self.meaning.plants]
         self.told = []
@@ -192,7 +197,7 @@ class Flight:
                 self.told.append(client.draft(name, wanted))
 
     def inputs(self, client):
-        for name in self.known.environment:
+        for name in self.known.fields:
             if self.choice.random() < 0.3:
                 scalars = self.known.fields[name]
                 numbers = [self.choice.randint(self.meaning.ranges[scalar].lo, self.meaning.ranges[scalar].hi + 1)

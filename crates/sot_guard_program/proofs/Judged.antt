@@ -1,7 +1,8 @@
 -- What is said of the mission in front, and of all that was read.
-use Rattle.std.proofs.Common.{◌≡◌, ℕ, ◌<◌, List, [], ◌++◌, Ok, Err, inl, inr, length, take, refl, sym, ap, ◌∙◌, append-nil, arith}
+use Rattle.std.proofs.Common.{◌≡◌, ℕ, ◌<◌, List, [], ◌++◌, Ok, Err, inl, inr, length, take, refl, sym, ap, subst, append-nil, arith}
 use Rattle.std.specs.Prelude.{◌≢◌, Result, IfOk}
 use Rattle.std.specs.declared.alloc.AllocError.{AllocError}
+use Rattle.std.proofs.lemmas.List.{length-append, take-append-le}
 use Rattle.std.specs.Io.KnownBytes.{Appends}
 use Rattle.sot_ports.specs.Faults.{Rose}
 use Rattle.sot_sections.specs.declared.mission.Need.TheVariants.{Check}
@@ -12,13 +13,27 @@ use Rattle.sot_tube.specs.Certified.{IsWellCertified}
 use Rattle.sot_world.specs.Headline.{EveryRunIsSafe}
 use Rattle.sot_report.specs.Missions.{Mission, SpellsMission}
 use Rattle.sot_report.specs.AcceptedTexts.{accepted_text}
+use Rattle.sot_guard_lines.specs.Outline.{outline_text}
 use Rattle.sot_cli.specs.declared.answer.Answer.{Answer}
 use Rattle.sot_guard_program.specs.Conversations.{unopened}
 use Rattle.sot_guard_program.specs.Moments.{Ears, Mouth, Passes, Utters, Ended}
-use Rattle.sot_guard_program.specs.Says.{SaysRobot, SaysMission}
+use Rattle.sot_guard_program.specs.Says.{SaysOutline, SaysMission}
 use Rattle.sot_guard_program.specs.Tellings.{TellsAnswer}
 use Rattle.sot_guard_program.specs.Beginning.{SaysIn, SaysAccepted, SaysJudged}
 use Rattle.sot_guard_program.proofs.Passing.{passes_nil, ended_behind, ended_so, ended_well, ended_told, ended_quiet}
+
+-- what a robot has to know was said, and no line was heard: the source or the sink has failed
+pub outlined_in_part : (acc : Admitted) (e : Ears) → SaysOutline acc e 4 [] (outline_text acc.program)
+outlined_in_part acc e = (
+  [],
+  sym (append-nil (outline_text acc.program)),
+  inr (inr (inr (inl (record {
+    opening = unopened acc;
+    started = refl;
+    said_is = refl;
+    text_is = refl;
+  })))),
+)
 
 module _ (e f : Ears) (x y : Mouth) (status : ℕ) where
   -- an answer is told
@@ -29,9 +44,9 @@ module _ (e f : Ears) (x y : Mouth) (status : ℕ) where
 
   -- behind the answer to an accepted mission
   pub greeted : (acc : Admitted) (z : Mouth) (text : List ℕ) → Utters x z text → text ≡ accepted_text acc.program acc.cert
-      → Ended (SaysIn (SaysRobot acc)) e f z y status → Ended (SaysAccepted acc) e f x y status
+      → Ended (SaysIn (SaysOutline acc)) e f z y status → Ended (SaysAccepted acc) e f x y status
   greeted acc z text utters is r =
-      ended_behind (SaysIn (SaysRobot acc)) (SaysAccepted acc) e e f x z y [] text status (passes_nil e) utters
+      ended_behind (SaysIn (SaysOutline acc)) (SaysAccepted acc) e e f x z y [] text status (passes_nil e) utters
       (λ said bytes more says. inl (more, ap (λ l. l ++ more) is, says)) r
 
   pub judged : (p : Tables) (cert : Cert) → IsWellCertified p cert.jitter cert → EveryRunIsSafe p cert.jitter
@@ -55,15 +70,9 @@ module _ (e f : Ears) (x y : Mouth) (status : ℕ) where
 pub greeted_in_part : (acc : Admitted) (e : Ears) (x y : Mouth) (text : List ℕ) (sent : ℕ) → text ≡ accepted_text acc.program acc.cert
     → Rose x.faults y.faults → sent < length text → Appends x.held y.held (take sent text) → Ended (SaysAccepted acc) e e x y 5
 greeted_in_part acc e x y text sent is rose below taken =
-    ended_well (SaysAccepted acc) e e x y [] text 4 5 (passes_nil e) (λ four. absurd (omega arith))
-    (inl (
-      [],
-      is ∙ sym (append-nil (accepted_text acc.program acc.cert)),
-      inr (inr (inr (inl (record {
-        opening = unopened acc;
-        started = refl;
-        said_is = refl;
-        text_is = refl;
-      })))),
-    ))
-    (inr (refl, rose, (sent, below, taken)))
+    let more = outline_text acc.program in
+    let below_all : sent < length (text ++ more) = omega (arith, below, length-append text more) in
+    let same = take-append-le sent text more (omega (arith, below)) in
+    ended_well (SaysAccepted acc) e e x y [] (text ++ more) 4 5 (passes_nil e) (λ four. absurd (omega arith))
+    (inl (more, ap (λ l. l ++ more) is, outlined_in_part acc e))
+    (inr (refl, rose, (sent, below_all, subst (Appends x.held y.held) (sym same) taken)))

@@ -5,9 +5,10 @@ use Rattle.std.proofs.Common.{Global}
 use Rattle.sot_ports.specs.Outside.{Outside}
 use Rattle.sot_tube.specs.Admitted.{Admitted}
 use Rattle.sot_report.specs.AcceptedTexts.{accepted_text}
+use Rattle.sot_guard_lines.specs.Outline.{outline_text}
 use Rattle.sot_guard_protocol.specs.Talks.{Talking}
 use Rattle.sot_guard_program.specs.Moments.{Ears}
-use Rattle.sot_guard_program.specs.Says.{SaysTalk, SaysRobot, SaysMission, SaysAll, Says}
+use Rattle.sot_guard_program.specs.Says.{SaysTalk, SaysRobot, SaysOutline, SaysMission, SaysAll, Says}
 use Rattle.sot_guard_program.specs.Ends.{Ends, IsAcceptance, AnswersNoLine}
 
 end_not_six : (b : Bool) → ◌≢◌ {A = ℕ} (if b then 0 else 1) 6
@@ -30,6 +31,13 @@ robot_silent acc b said spoken text (inr (inr (inl mistakes))) six = absurd (ome
 robot_silent acc b said spoken text (inr (inr (inr (inl so_far)))) six = absurd (omega (arith, so_far.said_is, six))
 robot_silent acc b said spoken text (inr (inr (inr (inr never)))) six = never.1.1
 
+-- nothing is said behind what a robot has to know
+outline_alone : (acc : Admitted) (b : Ears) (said : ℕ) (spoken : List (List ℕ)) (text : List ℕ) → SaysOutline acc b said spoken text → said ≡ 6
+    → text ≡ outline_text acc.program
+outline_alone acc b said spoken text (more, is, says) six =
+    let outline = outline_text acc.program in
+    is ∙ ap (λ l. outline ++ l) (robot_silent acc b said spoken more says six) ∙ append-nil outline
+
 abbrev SaysNoLine : List ℕ → Type 0
 SaysNoLine text = (text ≡ []) ⊎ IsAcceptance text
 
@@ -41,7 +49,7 @@ mission_silent front b said bytes text (inl (m, spells, accepts)) six =
       m,
       spells,
       accepts.accepted,
-      accepts.text_is ∙ ap (λ l. whole ++ l) (robot_silent _ b said _ accepts.more accepts.says six) ∙ append-nil whole,
+      accepts.text_is ∙ ap (λ l. whole ++ l) (outline_alone _ b said _ accepts.more accepts.says six),
     )
 mission_silent front b said bytes text (inr (inl (m, spells, one, refuses))) six = absurd (omega (arith, one, six))
 mission_silent front b said bytes text (inr (inr (inl (three, fault)))) six = absurd (omega (arith, three, six))

@@ -17,7 +17,7 @@ use Rattle.sot_guard_protocol.specs.Openings.{Starting}
 use Rattle.sot_guard_protocol.specs.Talks.{Talking}
 use Rattle.sot_guard_program.specs.Conversations.{Begins, StaysSafe}
 use Rattle.sot_guard_program.specs.Moments.{Ears}
-use Rattle.sot_guard_program.specs.Says.{SaysBegun, SaysRobot, HasSectionFault}
+use Rattle.sot_guard_program.specs.Says.{SaysBegun, SaysOutline, HasSectionFault}
 use Rattle.sot_guard_program.specs.Says.{IsSilent, IsUnheldLine}
 
 -- what is said of bytes by their lines
@@ -42,7 +42,7 @@ SaysOpened a b said spoken text =
 abbrev pub SaysAccepted : Admitted → Ears → ℕ → List ℕ → List ℕ → Type 0
 SaysAccepted acc b said bytes text =
     ((more : List ℕ) × (text ≡ accepted_text acc.program acc.cert ++ more)
-    × SaysRobot acc b said (lent_lines bytes) more)
+    × SaysOutline acc b said (lent_lines bytes) more)
     ⊎ IsSilent said text
 
 -- what is said of a program's tables with a certificate

@@ -1,11 +1,12 @@
 -- How a call of `guard` may end: the status, and what was read and written.
-use Rattle.std.specs.Prelude.{◌≡◌, ◌⊎◌, ℕ, Bool, false, List, [], String}
+use Rattle.std.specs.Prelude.{◌≡◌, ◌⊎◌, ◌++◌, ℕ, Bool, false, List, [], String}
 use Rattle.std.proofs.Common.{Global}
 use Rattle.sot_ports.specs.Outside.{Outside, Writes}
 use Rattle.sot_sections.specs.declared.mission.Need.TheVariants.{Check}
 use Rattle.sot_tube.specs.Certified.{IsWellCertified}
 use Rattle.sot_report.specs.Missions.{Mission, SpellsMission}
 use Rattle.sot_report.specs.AcceptedTexts.{accepted_text}
+use Rattle.sot_guard_lines.specs.Outline.{outline_text}
 use Rattle.sot_guard_program.specs.Moments.{Ears, Mouth, Ended}
 use Rattle.sot_guard_program.specs.Says.{Says}
 
@@ -29,13 +30,14 @@ pub record EndsSome (Tells : Ears → ℕ → List ℕ → List ℕ → Type 0) 
 abbrev pub Ends : List (String Global) → Outside → Outside → ℕ → Type 0
 Ends words before after status = EndsSome (Says words) before after status
 
--- the answer to an accepted mission
+-- the answer to an accepted mission, and what a robot has to know of it
 abbrev pub IsAcceptance : List ℕ → Type 0
 IsAcceptance text =
     (front : List ℕ) × (m : Mission) × SpellsMission Check 0 front m
-    × IsWellCertified m.tables m.cert.jitter m.cert × (text ≡ accepted_text m.tables m.cert)
+    × IsWellCertified m.tables m.cert.jitter m.cert
+    × (text ≡ accepted_text m.tables m.cert ++ outline_text m.tables)
 
 -- a robot was answered nothing: what was written is nothing at all, or the answer to an accepted
--- mission, all of it
+-- mission with what a robot has to know of it, all of it
 abbrev pub AnswersNoLine : Outside → Outside → Type 0
 AnswersNoLine before after = Writes before after (λ text. (text ≡ []) ⊎ IsAcceptance text)

@@ -28,6 +28,7 @@ use Rattle.sot_guard.specs.declared.misheard.Misheard.{Misheard}
 use Rattle.sot_guard.specs.declared.misheard.Misheard.TheVariants.{NotALine}
 use Rattle.sot_guard.specs.Resuming.{IsStartUnsafe}
 use Rattle.sot_guard_lines.specs.Lines.{end_line}
+use Rattle.sot_guard_lines.specs.Outline.{outline_text}
 use Rattle.sot_guard_protocol.specs.Openings.{Starting, HasAll, IsNoStart}
 use Rattle.sot_guard_protocol.specs.Talks.{Talking, tables_of, time_of, IsOver}
 use Rattle.sot_guard_input.specs.Fronts.{HasNone, IsFront, IsMark, IsTooLong}
@@ -166,21 +167,29 @@ IsBefore acc spoken =
 abbrev pub NeverBegins : Admitted → ℕ → List (List ℕ) → List ℕ → Type 0
 NeverBegins acc said spoken text = IsBefore acc spoken × IsSilent said text
 
--- what is said behind the answer to an accepted mission
+-- what belongs to what a robot says
 abbrev pub SaysRobot : Admitted → Ears → ℕ → List (List ℕ) → List ℕ → Type 0
 SaysRobot acc b said spoken text =
     Talks acc b said spoken text ⊎ RefusesStart acc said spoken text
     ⊎ MistakesStart acc b said spoken text ⊎ StartsSoFar acc said spoken text
     ⊎ NeverBegins acc said spoken text
 
--- a mission is accepted, every run of it is safe, that is said first, and then what belongs to what
--- a robot says
+-- what is said behind the answer to an accepted mission: what a robot has to know of it, and then
+-- what belongs to what a robot says
+abbrev pub SaysOutline : Admitted → Ears → ℕ → List (List ℕ) → List ℕ → Type 0
+SaysOutline acc b said spoken text =
+    (more : List ℕ) × (text ≡ outline_text acc.program ++ more)
+    × SaysRobot acc b said spoken more
+
+-- a mission is accepted, every run of it is safe, that is said first, and then what a robot has to
+-- know, and what belongs to what a robot says
 pub record Accepts (m : Mission) (b : Ears) (said : ℕ) (bytes text : List ℕ) : Type 0 where
   pub accepted : IsWellCertified m.tables m.cert.jitter m.cert
   pub safe : EveryRunIsSafe m.tables m.cert.jitter
   pub more : List ℕ
   pub text_is : text ≡ accepted_text m.tables m.cert ++ more
-  pub says : SaysRobot (record { program = m.tables; cert = m.cert }) b said (lent_lines bytes) more
+  pub says : SaysOutline (record { program = m.tables; cert = m.cert }) b said (lent_lines bytes)
+      more
 
 -- what is said of a front, and of the bytes behind its mark
 abbrev pub SaysMission : List ℕ → Ears → ℕ → List ℕ → List ℕ → Type 0

@@ -11,7 +11,7 @@ ghost use Rattle.sot_guard_program.specs.Moments.{ears, mouth, Ended};
 ghost use Rattle.sot_guard_program.specs.Says.{SaysMission, HasSectionFault};
 ghost use Rattle.sot_guard_program.specs.Beginning.{SaysAccepted, SaysJudged, SaysUnmarked};
 
-use crate::talking::converse;
+use crate::describing::describe;
 use crate::tell::tell;
 use sot_cli::{Answer, Status, faulty, refused};
 use sot_compose::check_all;
@@ -20,12 +20,14 @@ use sot_lang::{Cert, Typed};
 use sot_ports::{Process, Sink, Source, let_go, write_whole};
 use sot_report::{Fault, LoadFail, accepted_text, load};
 use sot_sections::{Need, SectionFault, SectionKind, split};
+use sot_text_output::room;
 use sot_trace_lines::Lines;
 use sot_tube::Accepted;
 use std::alloc::{AllocError, Global};
 use std::thread::Threads;
 
-// Says that a mission is accepted, and then answers what a robot says.
+// Says that a mission is accepted, and goes on with it. The bytes through which answers are written
+// have all their room before that is said.
 fn greet<S: Source, K: Sink>(
     alloc: Global,
     accepted: &Accepted<'_>,
@@ -50,8 +52,12 @@ fn greet<S: Source, K: Sink>(
         Ok(text) => text,
         Err(_) => return Status(6),
     };
+    let waiting = match room(alloc) {
+        Ok(waiting) => waiting,
+        Err(_) => return Status(6),
+    };
     match write_whole(sink, text.as_bytes()) {
-        Ok(()) => converse(alloc, accepted, ear, source, sink),
+        Ok(()) => describe(alloc, accepted, waiting, ear, source, sink),
         Err(_) => Status(5),
     }
 }

@@ -7,6 +7,7 @@
 #![tactic(auto)]
 
 mod accepting;
+mod describing;
 mod halt;
 mod line;
 mod program;

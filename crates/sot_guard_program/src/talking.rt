@@ -21,7 +21,6 @@ use sot_guard_input::Ear;
 use sot_guard_protocol::{Talk, TalkOpening};
 use sot_lang::Typed;
 use sot_ports::{Sink, Source};
-use sot_text_output::room;
 use sot_tube::Accepted;
 use std::alloc::Global;
 
@@ -104,11 +103,12 @@ fn begin<S: Source, K: Sink>(
     }
 }
 
-/// Hears where each plant is observed first, and then answers line by line what is said. The bytes
-/// through which answers are written have all their room before the first line.
+/// Hears where each plant is observed first, and then answers line by line what is said, through
+/// bytes that have all their room.
 pub(crate) fn converse<S: Source, K: Sink>(
     alloc: Global,
     accepted: &Accepted<'_>,
+    mut waiting: Vec<u8>,
     ear: &mut Ear,
     source: &mut S,
     sink: &mut K,
@@ -124,10 +124,6 @@ pub(crate) fn converse<S: Source, K: Sink>(
         (mouth (K.held sink.new) (K.faults sink.new)) result.0 }
 {
     let p = accepted.typed();
-    let mut waiting = match room(alloc) {
-        Ok(waiting) => waiting,
-        Err(_) => return Status(6),
-    };
     let mut opening = match TalkOpening::new(alloc, accepted) {
         Ok(opening) => opening,
         Err(_) => return Status(6),
