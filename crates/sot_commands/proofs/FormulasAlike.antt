@@ -1,4 +1,4 @@
--- Formulas of tables that look the same: a text that has a meaning for one has no fault for the other, and has one fault for both.
+-- Formulas of tables that look the same: a text that has a meaning for one has it for the other and has no fault for it, and has one fault for both.
 use Rattle.std.proofs.Common.{◌≡◌, ℕ, List, inl, inr, refl, sym, ap, ◌∙◌, subst}
 use Rattle.std.specs.Prelude.{◌≢◌}
 use Rattle.sot_lists.specs.Places.{At}
@@ -12,10 +12,14 @@ use Rattle.sot_formula.specs.declared.quantity.Quantity.{Quantity}
 use Rattle.sot_formula.specs.declared.fail.MonitorFail.{MonitorFail}
 use Rattle.sot_formula.specs.declared.fail.MonitorFail.TheVariants as fails
 use Rattle.sot_formula.specs.Phrases.{Phrase, a_truth, a_single, a_double, a_within, a_comparison, Reference, a_mode, a_name, a_field, Literal}
-use Rattle.sot_formula.specs.Meanings.{IsPlain, IsField, IsVariable, IsModule, Names, HasComparison, HasUnknown, HasOtherScale}
+use Rattle.sot_formula.specs.declared.words.Single.TheVariants as singles
+use Rattle.sot_formula.specs.declared.words.Double.TheVariants as doubles
+use Rattle.sot_formula.specs.Formulas.{Formula}
+use Rattle.sot_formula.specs.Meanings.{IsPlain, IsField, IsVariable, IsModule, Names, decimals, Means, HasComparison, HasUnknown, HasOtherScale}
 use Rattle.sot_formula.specs.Answers.{Refuses}
 use Rattle.sot_formula.proofs.Texts.{causes_exclude}
-use Rattle.sot_commands.specs.Watched.{HasMeaning}
+use Rattle.sot_law_formula_meaning.proofs.Meanings.{mean_once}
+use Rattle.sot_commands.specs.Watched.{HasMeaning, IsFormula}
 
 -- what holds of each comparison of a text is changed for what follows from it
 compared_moved : (Of Then : Reference → Literal → Type 0) → ((r : Reference) (z : Literal) → Of r z → Then r z) → (f : Phrase) → HasComparison Of f
@@ -83,6 +87,22 @@ module _ (t u : Tables) (same : tables_seen t ≡ tables_seen u) where
 
   scale_moved : (f : Phrase) → HasOtherScale t f → HasOtherScale u f
   scale_moved f has = compared_moved _ _ (λ r z (q, scale, names, differs). (q, scale, names_moved t u same r q scale names, differs)) f has
+
+-- a formula that a phrase means for one is what it means for the other
+means_moved : (t u : Tables) → tables_seen t ≡ tables_seen u → (f : Phrase) (x : Formula) → Means t f x → Means u f x
+means_moved t u same (a_truth value w) x is = is
+means_moved t u same (a_single singles.Not w begin f end) x (y, m, is) = (y, means_moved t u same f y m, is)
+means_moved t u same (a_single singles.Once w begin f end) x (y, m, is) = (y, means_moved t u same f y m, is)
+means_moved t u same (a_double doubles.And w begin f comma g end) x (y, z, m, k, is) = (y, z, means_moved t u same f y m, means_moved t u same g z k, is)
+means_moved t u same (a_double doubles.Or w begin f comma g end) x (y, z, m, k, is) = (y, z, means_moved t u same f y m, means_moved t u same g z k, is)
+means_moved t u same (a_double doubles.Since w begin f comma g end) x (y, z, m, k, is) = (y, z, means_moved t u same f y m, means_moved t u same g z k, is)
+means_moved t u same (a_within w begin n comma f end) x (y, m, is) = (y, means_moved t u same f y m, is)
+means_moved t u same (a_comparison r by z) x (q, c, names, sign, is) = (q, c, names_moved t u same r q (decimals z) names, sign, is)
+
+-- a text means one formula
+pub one_meaning : (t u : Tables) → tables_seen t ≡ tables_seen u → MeetsTableRules u → (bytes : List ℕ) (x y : Formula) → IsFormula t bytes x
+    → IsFormula u bytes y → x ≡ y
+one_meaning t u same rules bytes x y a b = mean_once u bytes a.phrase b.phrase x y rules a.text b.text (means_moved t u same a.phrase x a.means) b.means
 
 -- a text is refused for one cause by both
 refuses_moved : (t u : Tables) → tables_seen t ≡ tables_seen u → (bytes : List ℕ) (fail : MonitorFail) → Refuses t bytes fail → Refuses u bytes fail

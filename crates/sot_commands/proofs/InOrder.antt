@@ -14,7 +14,7 @@ use Rattle.sot_ordered_board.proofs.OneHistory.{one_history_in_order}
 use Rattle.sot_law_equal_flights.proofs.Histories.{ordered}
 use Rattle.sot_report.specs.Missions.{Mission, SaysFlight}
 use Rattle.sot_commands.specs.Answers.{SpellsFor}
-use Rattle.sot_commands.proofs.Unique.{same_flown, sections, seen, said}
+use Rattle.sot_commands.proofs.SameMissions.{same_flown, sections, seen, said}
 
 -- a flight that a text says fits the tables
 said_fits : (guests : ℕ) (t : Tables) (section : Option (List ℕ)) (f : Plan) (a : Option Plan) → a ≡ Some f → SaysFlight t guests section a

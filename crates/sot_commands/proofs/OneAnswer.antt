@@ -30,8 +30,11 @@ use Rattle.sot_maker.specs.Missions.{mission_text as made_text}
 use Rattle.sot_commands.specs.declared.words.Command.TheVariants.{Check, Fly, Replay, Recover, Watch, Format, Certify, Make, Soak}
 use Rattle.sot_commands.specs.ReplayTexts.{legal_text, refused_line_text}
 use Rattle.sot_commands.specs.Answers.{IsRefused, IsOutsideOf, SpellsFor, DoesNotFly}
-use Rattle.sot_commands.specs.Laws.{AcceptedOnce, RefusedOnce, LinesRefusedOnce}
-use Rattle.sot_commands.proofs.Unique.{same_seen, same_flown, sections, seen, said, look_same, accepted_refused, traced_moved}
+use Rattle.sot_commands.specs.Watched.{IsWatchedBy, TellsFails}
+use Rattle.sot_commands.specs.Laws.{AcceptedOnce, RefusedOnce, LinesRefusedOnce, UnflownToldOnce}
+use Rattle.sot_commands.proofs.SameMissions.{same_seen, same_flown, sections, seen, said, look_same}
+use Rattle.sot_commands.proofs.Unique.{accepted_refused, flown_or_stopped, traced_moved}
+use Rattle.sot_commands.proofs.OneWatch.{holds_once, fails_once}
 use Rattle.sot_commands.proofs.InOrder.{same_plan, one_history}
 use Rattle.sot_commands.proofs.SameSummaries.{summary_same}
 use Rattle.sot_summary.specs.Summaries.{summary_of}
@@ -115,6 +118,13 @@ unflown_text guests bytes text other (m, x, inr (certified, outside)) (n, y, inl
 unflown_text guests bytes text other (m, x, inr (certified, (f, is, outside))) (n, y, inr (certified', (g, is', outside'))) =
     outside_text needs.Fly guests bytes m n x y f g is is' text other outside outside'
 
+-- of a watched mission that is not flown nothing else is said
+pub unflown_told_once : UnflownToldOnce
+unflown_told_once guests formula bytes text other (inl flies) (n, y, means, stopped) =
+    absurd (flown_or_stopped (IsWatchedBy TellsFails formula.now) (λ t jitter f x says. says.0) guests bytes text other n y flies stopped)
+unflown_told_once guests formula bytes text other (inr (m, x, means, stopped)) (n, y, means', stopped') =
+    unflown_text guests bytes text other (m, x, stopped) (n, y, stopped')
+
 pub refuted_once : RefusedOnce
 refuted_once guests Check bytes text other way (m, x, refused) (n, y, refused') = refused_text needs.Check 0 bytes m n x y text other refused refused'
 refuted_once guests Fly bytes text other way a b = unflown_text guests bytes text other a b
@@ -127,7 +137,11 @@ refuted_once guests Recover bytes text other way (m, x, inr (certified, never)) 
     absurd (accepted_refused needs.Check 0 bytes m n x y r certified refuses)
 refuted_once guests Recover bytes text other way (m, x, inr (certified, never)) (n, y, inr (certified', never')) =
     (told_once m.tables n.tables m.cert n.cert text other (look_same needs.Check 0 bytes m n x y)).1 never never'
-refuted_once guests (Watch formula) bytes text other way a b = absurd way
+refuted_once guests (Watch formula) bytes text other nobody (inl (m, x, certified, safe, (f, is, fails))) (inl (n, y, certified', safe', (g, is', fails'))) =
+    fails_once guests nobody bytes m n x y f g is is' formula.now text other fails fails'
+refuted_once guests (Watch formula) bytes text other nobody (inr stopped) (inl flies) =
+    sym (unflown_told_once guests formula bytes other text (inl flies) stopped)
+refuted_once guests (Watch formula) bytes text other nobody fails (inr stopped) = unflown_told_once guests formula bytes text other fails stopped
 refuted_once guests Format bytes text other way a b = absurd a
 refuted_once guests Certify bytes text other way (p, t, spells, resolves, (fail, enough, fails, says))
     (q, u, spells', resolves', (fail', enough', fails', says')) =
@@ -159,7 +173,8 @@ accepted_once guests Replay bytes text other one (m, x, certified, safe, (f, lin
     says ∙ ap (λ (h : List Logged). legal_text (length h)) same ∙ sym says'
 accepted_once guests Recover bytes text other one (m, x, certified, safe, says) (n, y, certified', safe', says') =
     (told_once m.tables n.tables m.cert n.cert text other (look_same needs.Check 0 bytes m n x y)).0 says says'
-accepted_once guests (Watch formula) bytes text other one a b = absurd one
+accepted_once guests (Watch formula) bytes text other one (m, x, certified, safe, (f, is, holds)) (n, y, certified', safe', (g, is', holds')) =
+    holds_once guests one bytes m n x y f g is is' formula.now text other holds holds'
 accepted_once guests Format bytes text other one (p, spells, says) (q, spells', says') =
     says ∙ ap canonical (spells_unique bytes 0 p q spells spells') ∙ sym says'
 accepted_once guests Certify bytes text other one (p, t, spells, resolves, (c, made, fits, says), accepted)

@@ -34,7 +34,8 @@ use Rattle.sot_commands.specs.Answers.{HasProgramFault}
 use Rattle.sot_commands.specs.Laws.{SaysDeep, TellOneRule, RejectedOnce}
 use Rattle.sot_commands.specs.WatchTexts.{formula_text}
 use Rattle.sot_commands.proofs.FormulasAlike.{one_formula_fault}
-use Rattle.sot_commands.proofs.Unique.{same_parts, same_program, same_seen, same_said, seen, spelled_faulty}
+use Rattle.sot_commands.proofs.SameMissions.{same_parts, same_program, same_seen, same_said, seen}
+use Rattle.sot_commands.proofs.Unique.{spelled_faulty}
 
 -- two texts that tell one fault, as far as one is told
 abbrev SayOne : List ℕ → List ℕ → Type 0

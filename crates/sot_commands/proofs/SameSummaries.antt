@@ -20,7 +20,7 @@ one_seen : (k l : PlantInfo) (ks ls : List PlantInfo) → map plant_seen (k ∷ 
     → (plant_seen k ≡ plant_seen l) × (map plant_seen ks ≡ map plant_seen ls)
 one_seen k l ks ls same = (cc, cc)
 
-points_same : (ks ls : List PlantInfo) → map plant_seen ks ≡ map plant_seen ls → (states : List ℤ) → points_in ks states ≡ points_in ls states
+pub points_same : (ks ls : List PlantInfo) → map plant_seen ks ≡ map plant_seen ls → (states : List ℤ) → points_in ks states ≡ points_in ls states
 points_same [] [] same states = refl
 points_same [] (l ∷ ls) same states = absurd cc
 points_same (k ∷ ks) [] same states = absurd cc

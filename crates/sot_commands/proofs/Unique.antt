@@ -1,20 +1,20 @@
 -- A text decides one status.
 use Rattle.std.proofs.Common.{◌≡◌, ℕ, List, [], Option, None, Some, length, Result, Ok, inl, inr, refl, sym, ap, ◌∙◌, subst, arith, Global}
 use Rattle.std.proofs.Common.{◌<◌, ◌≤◌}
-use Rattle.std.specs.Prelude.{◌⊎◌, String, slice_index_or}
+use Rattle.std.specs.Prelude.{◌⊎◌, ◌≢◌, String, slice_index_or}
 use Rattle.std.proofs.lemmas.Option.{same_Some, slice_get_within}
 use Rattle.sot_lists.specs.Places.{At}
 use Rattle.sot_box.specs.Regions.{IsInRegion}
 use Rattle.sot_sections.specs.declared.mission.Need.{Need}
 use Rattle.sot_sections.specs.declared.mission.Need.TheVariants as needs
-use Rattle.sot_sections.specs.Sections.{Parts, split_of}
+use Rattle.sot_sections.specs.Sections.{Parts}
 use Rattle.sot_syntax_tree.specs.Trees.{Program}
 use Rattle.sot_lang.specs.Tables.{Tables}
 use Rattle.sot_parser.specs.Programs.{Spells}
 use Rattle.sot_parser.proofs.ProgramTexts.{spells_unique}
 use Rattle.sot_rules.specs.First.{IsFaultless}
-use Rattle.sot_typing.specs.Resolved.{tables_seen, tables_of}
-use Rattle.sot_cert.specs.CertFormat.{Contents, contents, cert_of}
+use Rattle.sot_typing.specs.Resolved.{tables_seen}
+use Rattle.sot_cert.specs.CertFormat.{Contents}
 use Rattle.sot_json.specs.declared.fault.JsonFault.{JsonFault}
 use Rattle.sot_flight.specs.Plans.{Plan}
 use Rattle.sot_world.specs.HistoryEntry.{Logged}
@@ -25,17 +25,14 @@ use Rattle.sot_replay.specs.declared.fail.LineKind.{LineKind}
 use Rattle.sot_replay.proofs.OneAnswer.{traces_are_not_refused}
 use Rattle.sot_cli.specs.Texts.{input_limit}
 use Rattle.sot_commands.proofs.Replayed.{traced_alike}
-use Rattle.sot_flight.specs.FlightFormat.{flight_of}
 use Rattle.sot_tube.specs.Certified.{IsWellCertified}
 use Rattle.sot_tube.specs.Refusals.{Refusal}
 use Rattle.sot_tube.proofs.Acceptance.{certified_passes}
 use Rattle.sot_tube.proofs.VerdictExact.{verdict_exact}
-use Rattle.sot_law_equal_tables.proofs.Certificates.{certificates_alike}
 use Rattle.sot_law_equal_tables.proofs.Certified.{certified_alike}
 use Rattle.sot_law_equal_tables.proofs.Seen.{modules_same}
 use Rattle.sot_law_equal_tables.proofs.Flights.{flights_alike}
 use Rattle.sot_law_equal_verdicts.proofs.Certify.{certify_alike}
-use Rattle.sot_law_equal_ranks.specs.Laws.{LookTheSame}
 use Rattle.sot_recovery_text.proofs.Alike.{told_once}
 use Rattle.sot_world.specs.Opens.{StartInside, IsFirstOutside}
 use Rattle.sot_report.specs.declared.fault.Fault.{Fault}
@@ -51,38 +48,10 @@ use Rattle.sot_commands.specs.Watched.{IsWatchedBy, TellsHolds}
 use Rattle.sot_commands.specs.Ends.{Decides, FliesWatched}
 use Rattle.sot_commands.proofs.FormulasAlike.{meaning_or_fault}
 use Rattle.sot_commands.proofs.OneCommand.{plain, same_command}
+use Rattle.sot_commands.proofs.SameMissions.{same_parts, same_program, same_seen, same_said, same_flown, sections, seen, said, look_same}
+use Rattle.sot_commands.proofs.OneWatch.{holds_or_fails}
 
--- bytes have one list of sections, and its program's text spells one program
-pub same_ok : {A E : Type 0} (x : Result A E) (a b : A) → x ≡ Ok a → x ≡ Ok b → a ≡ b
-same_ok x a b e f = (let same = sym e ∙ f in cc)
-
-pub same_parts : (need : Need) (bytes : List ℕ) (a b : Parts) → HasParts need bytes a → HasParts need bytes b → a ≡ b
-same_parts need bytes a b = same_ok (split_of bytes need) a b
-
-pub same_program : (a b : Parts) (p q : Program) → a ≡ b → Spells a.program 0 p → Spells b.program 0 q → p ≡ q
-same_program a b p q same spells spells' = spells_unique a.program 0 p q spells (subst (λ (x : Parts). Spells x.program 0 q) (sym same) spells')
-
--- tables of one program look the same
-pub same_seen : (p q : Program) (t u : Tables) → p ≡ q → Resolves p t → Resolves q u → tables_seen t ≡ tables_seen u
-same_seen p q t u same r s = r.tables ∙ ap tables_of same ∙ sym s.tables
-
--- and the certificate's text says the same of them
-pub same_said : (a b : Parts) (t u : Tables) → a ≡ b → tables_seen t ≡ tables_seen u → cert_of t a.cert ≡ cert_of u b.cert
-same_said a b t u same seen = certificates_alike t u a.cert seen ∙ ap (λ (x : Parts). cert_of u x.cert) same
-
--- the flight's text says the same flight of tables that look the same
-pub same_flown : (guests : ℕ) (t u : Tables) (section : Option (List ℕ)) (f g : Plan) (a b : Option Plan) → tables_seen t ≡ tables_seen u → a ≡ Some f
-    → b ≡ Some g
-    → SaysFlight t guests section a → SaysFlight u guests section b → f ≡ g
-same_flown guests t u None f g None b seen is is' x y = absurd cc
-same_flown guests t u None f g (Some a) b seen is is' x y = absurd x
-same_flown guests t u (Some section) f g None b seen is is' x y = absurd x
-same_flown guests t u (Some section) f g (Some a) None seen is is' x y = absurd y
-same_flown guests t u (Some section) f g (Some a) (Some b) seen is is' x y =
-    let one : a ≡ b = same_ok (flight_of u guests section) a b (sym (flights_alike t u guests section seen) ∙ x.0) y.0 in
-    same_Some f a (sym is) ∙ one ∙ same_Some b g is'
-
--- and has no fault of one of them where it says a flight of the other
+-- a text has no fault of one of two tables that look the same where it says a flight of the other
 flown_faulty : (guests : ℕ) (t u : Tables) (section : Option (List ℕ)) (a : Option Plan) (fault : JsonFault) → tables_seen t ≡ tables_seen u
     → SaysFlight t guests section a → FaultsFlight u guests section fault → ⊥
 flown_faulty guests t u None a fault seen x y = y
@@ -90,26 +59,12 @@ flown_faulty guests t u (Some section) None fault seen x y = x
 flown_faulty guests t u (Some section) (Some f) fault seen x y = (let e = sym x.0 ∙ flights_alike t u guests section seen ∙ y in absurd cc)
 
 module _ (need : Need) (guests : ℕ) (bytes : List ℕ) (m n : Mission) (x : SpellsFor need guests bytes m) (y : SpellsFor need guests bytes n) where
-  pub sections : x.parts ≡ y.parts
-  sections = same_parts need bytes x.parts y.parts x.divided y.divided
-
-  pub seen : tables_seen m.tables ≡ tables_seen n.tables
-  seen = same_seen m.program n.program m.tables n.tables (same_program x.parts y.parts m.program n.program sections x.spelled y.spelled) x.resolved y.resolved
-
-  pub said : contents m.cert ≡ contents n.cert
-  said =
-      same_ok (cert_of n.tables y.parts.cert) (contents m.cert) (contents n.cert)
-      (sym (same_said x.parts y.parts m.tables n.tables sections seen) ∙ x.certified) y.certified
-
-  -- two missions of one text look the same
-  pub look_same : LookTheSame m.tables n.tables m.cert n.cert
-  look_same = record { tables = seen; jitter = ap (λ (c : Contents). c.jitter) said; cells = ap (λ (c : Contents). c.modules) said }
-
   -- a mission that is accepted is not refused
   pub accepted_refused : (r : Refusal) → IsAccepted m → IsRefusedFor n r → ⊥
   accepted_refused r certified refuses =
-      let jitter : m.cert.jitter ≡ n.cert.jitter = ap (λ (c : Contents). c.jitter) said in
-      let other = certified_alike m.tables n.tables m.cert.jitter m.cert n.cert seen (ap (λ (c : Contents). c.modules) said) certified in
+      let jitter : m.cert.jitter ≡ n.cert.jitter = ap (λ (c : Contents). c.jitter) (said need guests bytes m n x y) in
+      let cells = ap (λ (c : Contents). c.modules) (said need guests bytes m n x y) in
+      let other = certified_alike m.tables n.tables m.cert.jitter m.cert n.cert (seen need guests bytes m n x y) cells certified in
       let here = subst (λ j. IsWellCertified n.tables j n.cert) jitter other in
       (verdict_exact n.tables n.cert.jitter n.cert).exclusive r refuses (certified_passes n.tables n.cert.jitter n.cert here)
 
@@ -117,9 +72,9 @@ module _ (need : Need) (guests : ℕ) (bytes : List ℕ) (m n : Mission) (x : Sp
   inside_outside : (f g : Plan) → m.flight ≡ Some f → n.flight ≡ Some g → StartInside m.tables f.start (length m.tables.modules)
       → (k : ℕ) → IsFirstOutside n.tables g.start k → ⊥
   inside_outside f g is is' inside k first =
-      let flights : f ≡ g = same_flown guests m.tables n.tables x.parts.flight f g m.flight n.flight seen is is' x.flown
-      (subst (λ (q : Parts). SaysFlight n.tables guests q.flight n.flight) (sym sections) y.flown) in
-      let here = subst (λ ms. At ms k first.info) (sym (modules_same m.tables n.tables seen)) first.is in
+      let flights : f ≡ g = same_flown guests m.tables n.tables x.parts.flight f g m.flight n.flight (seen need guests bytes m n x y) is is' x.flown
+      (subst (λ (q : Parts). SaysFlight n.tables guests q.flight n.flight) (sym (sections need guests bytes m n x y)) y.flown) in
+      let here = subst (λ ms. At ms k first.info) (sym (modules_same m.tables n.tables (seen need guests bytes m n x y))) first.is in
       first.outside (subst (λ (h : Plan). IsInRegion first.info.safer.boxes (slice_index_or h.start first.info.plant [])) flights
       (inside k first.info (slice_get_within m.tables.modules k first.info here) here))
 
@@ -181,7 +136,7 @@ program_faulty bytes p t (faults.Flight f) spells resolves has = has
 abbrev StartsInside : (Tables → ℕ → Plan → List ℕ → Type 0) → Type 0
 StartsInside Says = (t : Tables) (jitter : ℕ) (f : Plan) (text : List ℕ) → Says t jitter f text → StartInside t f.start (length t.modules)
 
-flown_or_stopped : (Says : Tables → ℕ → Plan → List ℕ → Type 0) → StartsInside Says → (guests : ℕ) (bytes text text' : List ℕ) (n : Mission)
+pub flown_or_stopped : (Says : Tables → ℕ → Plan → List ℕ → Type 0) → StartsInside Says → (guests : ℕ) (bytes text text' : List ℕ) (n : Mission)
     → SpellsFor needs.Fly guests bytes n → FliesWith Says guests bytes text → IsStopped n text' → ⊥
 flown_or_stopped Says starts guests bytes text text' n spells' (m, spells, certified, safe, flown) (inl (r, refuses, says')) =
     accepted_refused needs.Fly guests bytes m n spells spells' r certified refuses
@@ -192,13 +147,13 @@ flies_once : (Says : Tables → ℕ → Plan → List ℕ → Type 0) → Starts
     → DoesNotFly guests bytes text' → ⊥
 flies_once Says starts guests bytes text text' flies (n, spells', stopped) = flown_or_stopped Says starts guests bytes text text' n spells' flies stopped
 
--- a watched flight that is flown, whatever its history comes to
+-- a watched flight that is flown with guests, whatever its history comes to
 abbrev Watching : ℕ → Command → List ℕ → Type 0
 Watching guests Check bytes = ⊥
 Watching guests Fly bytes = ⊥
 Watching guests Replay bytes = ⊥
 Watching guests Recover bytes = ⊥
-Watching guests (Watch formula) bytes = IsFlownWatched formula.now guests bytes
+Watching guests (Watch formula) bytes = (guests ≢ 0) × IsFlownWatched formula.now guests bytes
 Watching guests Format bytes = ⊥
 Watching guests Certify bytes = ⊥
 Watching guests (Make n seed) bytes = ⊥
@@ -221,8 +176,11 @@ not_refuted guests Recover bytes text text' (m, spells, certified, safe, says) (
     accepted_refused needs.Check 0 bytes m n spells spells' r certified refuses
 not_refuted guests Recover bytes text text' (m, spells, certified, safe, says) (n, spells', inr (certified', says')) =
     (told_once m.tables n.tables m.cert n.cert text text' (look_same needs.Check 0 bytes m n spells spells')).2 says says'
-not_refuted guests (Watch formula) bytes text text' (m, spells, certified, safe, (f, is, (inside, (x, history, means, flown, tells)))) (inl fails) =
-    (m, spells, (x, means), certified, (f, is, inside))
+not_refuted guests (Watch formula) bytes text text' (m, spells, certified, safe, (f, is, (inside, (x, history, means, flown, tells))))
+    (inl (n, spells', certified', safe', (g, is', fails))) = (
+      λ nobody. holds_or_fails guests nobody bytes m n spells spells' f g is is' formula.now text text' (inside, (x, history, means, flown, tells)) fails,
+      (m, spells, (x, means), certified, (f, is, inside)),
+    )
 not_refuted guests (Watch formula) bytes text text' flies (inr (n, spells', means, stopped)) =
     absurd (flown_or_stopped (IsWatchedBy TellsHolds formula.now) (λ t jitter f x says. says.0) guests bytes text text' n spells' flies stopped)
 not_refuted guests Format bytes text text' a r = r
@@ -267,7 +225,7 @@ refuted_not_rejected guests Certify bytes text text' (p, t, spells, resolves, ha
 refuted_not_rejected guests (Make n seed) bytes text text' a r = r
 refuted_not_rejected guests (Soak n seed) bytes text text' (m, spells, refused) (f, has, says') = spelled_faulty needs.Fly 0 (made_text n seed) m f spells has
 
--- of a watched flight that is flown, 0 or 1 is the status, and one command else has one
+-- of a watched flight that is flown with guests, 0 or 1 is the status, and one command else has one
 abbrev AreOne : ℕ → ℕ → Type 0 → Type 0
 AreOne s t Flown = (s ≡ t) ⊎ ((s ≤ 1) × (t ≤ 1) × Flown)
 
@@ -322,14 +280,14 @@ given_plain Certify bytes = refl
 given_plain (Make n seed) bytes = refl
 given_plain (Soak n seed) bytes = refl
 
--- words that ask for a watched flight ask for it
+-- words that ask for such a flight ask for it
 words_watch : (guests : ℕ) (words : List (String Global)) (c : Command) (bytes : List ℕ) → Asks words c → length (given_to c bytes) ≤ input_limit
     → Watching guests c (given_to c bytes) → FliesWatched guests words bytes
 words_watch guests words Check bytes asks short flown = absurd flown
 words_watch guests words Fly bytes asks short flown = absurd flown
 words_watch guests words Replay bytes asks short flown = absurd flown
 words_watch guests words Recover bytes asks short flown = absurd flown
-words_watch guests words (Watch formula) bytes asks short flown = (formula, asks, short, flown)
+words_watch guests words (Watch formula) bytes asks short (some, flown) = (some, (formula, asks, short, flown))
 words_watch guests words Format bytes asks short flown = absurd flown
 words_watch guests words Certify bytes asks short flown = absurd flown
 words_watch guests words (Make n seed) bytes asks short flown = absurd flown
@@ -356,7 +314,7 @@ never_both words bytes c d asks reads asks' short long =
     let size = ap length same in
     omega (arith, short, long, size)
 
--- words and bytes decide one status, but for a watched flight that is flown
+-- words and bytes decide one status, but for a watched flight that is flown with guests
 watched_or_one : (guests : ℕ) (words : List (String Global)) (c : Command) (bytes : List ℕ) (s t : ℕ) → Asks words c
     → length (given_to c bytes) ≤ input_limit → AreOne s t (Watching guests c (given_to c bytes)) → AreOne s t (FliesWatched guests words bytes)
 watched_or_one guests words c bytes s t asks short (inl same) = inl same

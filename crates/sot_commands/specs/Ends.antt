@@ -61,12 +61,13 @@ Decides guests words bytes status =
     ⊎ ((command : Command) × Asks words command × (length (given_to command bytes) ≤ input_limit)
     × ((text : List ℕ) × Replies guests command (given_to command bytes) status text))
 
--- the words ask for a watched flight, and the bytes are those of one that is flown: whether its
--- formula holds, the history decides, of which there may be several
+-- there are guests, the words ask for a watched flight, and the bytes are those of one that is
+-- flown: whether its formula holds, the history decides, of which there may be several
 abbrev pub FliesWatched : ℕ → List (String Global) → List ℕ → Type 0
 FliesWatched guests words bytes =
-    (formula : _) × Asks words (Watch formula) × (length bytes ≤ input_limit)
-    × IsFlownWatched formula.now guests bytes
+    (guests ≢ 0)
+    × ((formula : _) × Asks words (Watch formula) × (length bytes ≤ input_limit)
+    × IsFlownWatched formula.now guests bytes)
 
 -- the end of a call with so many guests, status by status
 pub record Ends (guests : ℕ) (words : List (String Global)) (before after : Outside) (status : ℕ) :
@@ -86,7 +87,8 @@ pub record Ends (guests : ℕ) (words : List (String Global)) (before after : Ou
   -- status 6 is want of memory, which may come at any time before the writing
   pub unwritten : (status ≡ 4) ⊎ (status ≡ 6) → Keeps before.held after.held
   -- with no fault and memory enough, it is the status that words, bytes and the number of guests
-  -- decide; but where a watched flight is flown it is 0 or 1, by the history that is written
+  -- decide; but where a watched flight is flown with guests it is 0 or 1, by the history that is
+  -- written
   pub decided : (¬ (Rose before.read_faults after.read_faults))
       → (¬ (Rose before.write_faults after.write_faults)) → status ≢ 6
       → IfSome before.left (λ bytes. (s : ℕ) → Decides guests words bytes s

@@ -13,15 +13,16 @@ use Rattle.sot_commands.specs.declared.words.Command.TheVariants.{Check, Fly, Re
 use Rattle.sot_commands.specs.declared.words.Command.TheVariants.{Recover, Watch, Certify}
 use Rattle.sot_commands.specs.declared.words.Command.TheVariants.{Make, Soak}
 use Rattle.sot_commands.specs.Answers.{SpellsFor, IsIllegal, Accepts, Refutes, Rejects}
+use Rattle.sot_commands.specs.Answers.{DoesNotFlyWatched}
 
 -- the commands that say one thing of what they accept, where so many guests are handed in: a flight
--- with guests has several histories, and without them it has one. Of `watch` nothing is said
+-- with guests has several histories, and without them it has one
 abbrev pub AcceptsOneWay : ℕ → Command → Type 0
 AcceptsOneWay guests Check = Unit {0}
 AcceptsOneWay guests Fly = guests ≡ 0
 AcceptsOneWay guests Replay = Unit {0}
 AcceptsOneWay guests Recover = Unit {0}
-AcceptsOneWay guests (Watch formula) = ⊥
+AcceptsOneWay guests (Watch formula) = guests ≡ 0
 AcceptsOneWay guests Format = Unit {0}
 AcceptsOneWay guests Certify = Unit {0}
 AcceptsOneWay guests (Make n seed) = Unit {0}
@@ -33,21 +34,22 @@ AcceptedOnce =
     → Accepts guests command bytes text → Accepts guests command bytes other → text ≡ other
 
 -- bytes are refused with one text: the first condition that fails with its evidence, the start, or
--- why there is no certificate. Of `replay` see below; a watched flight has several histories
-abbrev pub RefusesOneWay : Command → Type 0
-RefusesOneWay Check = Unit {0}
-RefusesOneWay Fly = Unit {0}
-RefusesOneWay Replay = ⊥
-RefusesOneWay Recover = Unit {0}
-RefusesOneWay (Watch formula) = ⊥
-RefusesOneWay Format = Unit {0}
-RefusesOneWay Certify = Unit {0}
-RefusesOneWay (Make n seed) = Unit {0}
-RefusesOneWay (Soak n seed) = Unit {0}
+-- why there is no certificate; and a watched flight without guests at one moment. Of `replay`, and
+-- of watched flights with guests, see below
+abbrev pub RefusesOneWay : ℕ → Command → Type 0
+RefusesOneWay guests Check = Unit {0}
+RefusesOneWay guests Fly = Unit {0}
+RefusesOneWay guests Replay = ⊥
+RefusesOneWay guests Recover = Unit {0}
+RefusesOneWay guests (Watch formula) = guests ≡ 0
+RefusesOneWay guests Format = Unit {0}
+RefusesOneWay guests Certify = Unit {0}
+RefusesOneWay guests (Make n seed) = Unit {0}
+RefusesOneWay guests (Soak n seed) = Unit {0}
 
 abbrev pub RefusedOnce : Type 0
 RefusedOnce =
-    (guests : ℕ) (command : Command) (bytes text other : List ℕ) → RefusesOneWay command
+    (guests : ℕ) (command : Command) (bytes text other : List ℕ) → RefusesOneWay guests command
     → Refutes guests command bytes text → Refutes guests command bytes other → text ≡ other
 
 -- the lines of a trace are refused at one line by one test, of the tables of one mission
@@ -57,6 +59,14 @@ LinesRefusedOnce =
     (text other : List ℕ) → SpellsFor needs.Replay guests bytes m
     → IsIllegal m.tables m.cert.jitter f lines text → IsIllegal m.tables m.cert.jitter f lines other
     → text ≡ other
+
+-- a watched flight with guests has several histories; but where the mission is not flown, nothing
+-- else is said
+abbrev pub UnflownToldOnce : Type 0
+UnflownToldOnce =
+    (guests : ℕ) (formula : _) (bytes text other : List ℕ)
+    → Refutes guests (Watch formula) bytes text
+    → DoesNotFlyWatched formula.now guests bytes other → text ≡ other
 
 -- a text says that something nests too deep
 abbrev pub SaysDeep : List ℕ → Type 0

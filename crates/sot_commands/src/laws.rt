@@ -1,7 +1,7 @@
 //! Laws on what is said. Each of these functions does nothing, and its contract is the law.
 
 ghost use Rattle.sot_commands.specs.Laws.{AcceptedOnce, RefusedOnce, LinesRefusedOnce};
-ghost use Rattle.sot_commands.specs.Laws.{RejectedOnce};
+ghost use Rattle.sot_commands.specs.Laws.{RejectedOnce, UnflownToldOnce};
 ghost use Rattle.sot_commands.specs.GuestLaws.{TracesEndOnce, FlewOnce, NamedAreAsked, OthersStay};
 
 use sot_fly_worker::Controller;
@@ -11,8 +11,9 @@ pub fn accepted_once()
     ensures { AcceptedOnce }
 {}
 
-/// Bytes are refused with one text, but for the lines of a trace: one condition with one evidence,
-/// one start, one reason why there is no certificate.
+/// Bytes are refused with one text: one condition with one evidence, one start, one reason why
+/// there is no certificate, one moment at which a formula fails without guests. Of the lines of a
+/// trace, and of watched flights with guests, other laws speak.
 pub fn refused_once()
     ensures { RefusedOnce }
 {}
@@ -20,6 +21,11 @@ pub fn refused_once()
 /// The lines of a trace are refused at one line, by one test.
 pub fn lines_refused_once()
     ensures { LinesRefusedOnce }
+{}
+
+/// A watched mission that is not flown is told so with one text, and is not refuted otherwise.
+pub fn unflown_told_once()
+    ensures { UnflownToldOnce }
 {}
 
 /// The first fault of bytes is told with one text, but for what nests too deep, and for the line

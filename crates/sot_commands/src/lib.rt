@@ -32,7 +32,7 @@ mod words;
 pub use facts::lists_are_told_on_as_stated;
 pub use laws::{
     accepted_once, flew_once, lines_refused_once, named_are_asked, others_stay, refused_once,
-    rejected_once, traces_end_once,
+    rejected_once, traces_end_once, unflown_told_once,
 };
 pub use order::{Begun, FlightOrder};
 pub use program::run;
