@@ -38,7 +38,7 @@ some_draft :
     → (draft : List (Option ℤ)) × (draft_of p info crew k ≡ Some draft)
 some_draft p info plans.Coded k none fits not = absurd (let e = sym none ∙ fits.1.1 in cc)
 some_draft p info (plans.Script drafts) k none fits not = (_, refl)
-some_draft p info (plans.Wild seed stream) k none fits not = (_, refl)
+some_draft p info (plans.Wild spread seed stream) k none fits not = (_, refl)
 some_draft p info (plans.Guest i) k none fits not = absurd (not i refl)
 
 pub crew_drafts :

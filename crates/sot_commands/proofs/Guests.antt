@@ -45,7 +45,7 @@ named_or_not (crew ∷ crews) i = behind (here crew) (named_or_not crews i)
     here : (c : Crew) → (c ≡ Guest i) ⊎ (c ≡ Guest i → ⊥)
     here Coded = inr (λ e. absurd cc)
     here (Script drafts) = inr (λ e. absurd cc)
-    here (Wild seed stream) = inr (λ e. absurd cc)
+    here (Wild spread seed stream) = inr (λ e. absurd cc)
     here (Guest j) = ⊎_elim (λ same. inl (ap (λ (k : ℕ). Guest k) same)) (λ differ. inr (λ e. differ (let same : j ≡ i = cc in same))) (cases_eq j i)
 
     at_none : (crew ≡ Guest i → ⊥) → ((n : ℕ) → At crews n (Guest i) → ⊥) → (n : ℕ) → At (crew ∷ crews) n (Guest i) → ⊥

@@ -18,7 +18,7 @@ use Rattle.sot_lang.specs.TableRules.{MeetsTableRules}
 use Rattle.sot_lang.specs.Ranges.{bounds, range_of, write_ranges}
 use Rattle.sot_lang.specs.Ticks.{joined}
 use Rattle.sot_flight.specs.Plans.{Plan, Sway, Still, Low, High, Listed, Drawn, Crew, Coded, Script, Wild, Guest}
-use Rattle.sot_flight.specs.Draws.{drawn_from}
+use Rattle.sot_flight.specs.Draws.{drawn_from, turn}
 use Rattle.sot_flight.specs.Stated.{row_at, noise_of, noises, stated_noise, draft_of}
 use Rattle.sot_flight.specs.Fits.{FitsSway, FitsCrew, FitsFlight}
 use Rattle.sot_flight.specs.NoiseRules.{HasNarrowNoise}
@@ -43,7 +43,7 @@ noise_size plant Still t fits = ap length (sym fits)
 noise_size plant Low t fits = length-map (bounds plant) (λ (r : Side). r.lo) ∙ length-bounds plant
 noise_size plant High t fits = length-map (bounds plant) (λ (r : Side). r.hi) ∙ length-bounds plant
 noise_size plant (Listed rows) t fits = listed_size plant rows t fits
-noise_size plant (Drawn seed stream) t fits = length-noise_drawn plant seed stream _
+noise_size plant (Drawn spread seed stream) t fits = length-noise_drawn plant spread seed stream _
 
 -- what is stated for a plant, by its place
 pub noises_at : (plants : List PlantInfo) (sways : List Sway) (t k : ℕ) (plant : PlantInfo) (sway : Sway) → At plants k plant → At sways k sway
@@ -93,7 +93,7 @@ noise_within plant Still t narrow fits =
 noise_within plant Low t narrow fits = lows_within (bounds plant) (ordered_bounds plant narrow)
 noise_within plant High t narrow fits = highs_within (bounds plant) (ordered_bounds plant narrow)
 noise_within plant (Listed rows) t narrow fits = listed_within plant rows t fits
-noise_within plant (Drawn seed stream) t narrow fits = drawn_within seed stream _ (bounds plant) (ordered_bounds plant narrow)
+noise_within plant (Drawn spread seed stream) t narrow fits = drawn_within spread seed stream _ (bounds plant) (ordered_bounds plant narrow)
 
 -- what a flight states for a plant, by its place
 pub stated_at : (p : Tables) (f : Plan) (t k : ℕ) (plant : PlantInfo) (sway : Sway) → At p.plants k plant → At f.sways k sway
@@ -141,8 +141,8 @@ pub draft_size : (p : Tables) (node : NodeInfo) (crew : Crew) (i : ℕ) (draft :
     → length draft ≡ length node.writes.items
 draft_size p node Coded i draft fits is = absurd cc
 draft_size p node (Script drafts) i draft fits is = (let k = row_among drafts i fits.1 in ap length (sym (same_Some _ draft is)) ∙ fits.2 k.0 _ k.1)
-draft_size p node (Wild seed stream) i draft fits is =
-    let list = drawn_from seed stream (i * length node.writes.items) (write_ranges p node) in
-    ap length (sym (same_Some _ draft is)) ∙ length-map list Some ∙ length-drawn_from seed stream _ (write_ranges p node)
+draft_size p node (Wild spread seed stream) i draft fits is =
+    let list = drawn_from spread seed stream (turn spread i * length node.writes.items) (write_ranges p node) in
+    ap length (sym (same_Some _ draft is)) ∙ length-map list Some ∙ length-drawn_from spread seed stream _ (write_ranges p node)
     ∙ length-map node.writes.items (range_of p.scalars)
 draft_size p node (Guest index) i draft fits is = absurd cc

@@ -38,12 +38,13 @@ use Rattle.sot_flight.specs.declared.sway.SwayKind.TheVariants as sway_kinds
 use Rattle.sot_flight.specs.declared.crew.CrewKind.{CrewKind}
 use Rattle.sot_flight.specs.declared.crew.CrewKind.TheVariants as crew_kinds
 use Rattle.sot_flight.specs.Plans.{StatedInput, Plan, Sway, Still, Low, High, Listed, Drawn, Crew, Coded, Script, Wild, Guest}
+use Rattle.sot_flight.specs.declared.spread.Spread.TheVariants.{Anywhere, Ends}
 use Rattle.sot_flight.specs.Counts.{events_of, numbers_of}
 use Rattle.sot_flight.specs.Fits.{FitsInput, FitsSway, FitsCrew, FitsFlight}
 use Rattle.sot_flight.specs.ListForms.{number_in, number_at, numbers_in, numbers, rows_in, slot, draft, drafts, for_each_after}
 use Rattle.sot_flight.specs.FlightFormat.{greatest, point_at, plant_names, start, last_time, time, is_outside, topic, ranges_of_topic, topic_ranges, input}
 use Rattle.sot_flight.specs.FlightFormat.{inputs, sway_kind, sway_as, sway, has_noise, sway_at, sways, crew_kind, is_guest, guest, crew_as, crew, is_external}
-use Rattle.sot_flight.specs.FlightFormat.{crew_at, crews, node_names, flight_keys, counted, flight}
+use Rattle.sot_flight.specs.FlightFormat.{hold, edge_keys, crew_at, crews, node_names, flight_keys, counted, flight}
 use Rattle.sot_flight.proofs.ReadForms.{numbers_len}
 use Rattle.sot_flight.proofs.FoundLists.{found_len, found_at, read_len, read_at_place, taken_len}
 
@@ -317,6 +318,14 @@ no_noise plant h = go plant.noise.items h
     go [] e = refl
     go (x ∷ xs) e = (let some' = lt-ltb 0 (suc (length xs)) (omega arith) in cc)
 
+-- an end is held at least once
+hold_some : (d : Data) (n : ℕ) → hold d ≡ Ok n → 0 < n
+unfolding hold
+hold_some d n h =
+    let x = bind_ok (count 100000 d) _ n h in
+    let ok = bind_ok (unless OutsideRange (nat_lt 0 x.0)) _ n x.2 in
+    subst (λ k. 0 < k) (ok_same x.0 n ok.2) (ltb-true _ _ (unless_ok OutsideRange _ _ ok.1))
+
 sway_as_fits : (plant : PlantInfo) (ms : Members) (kind : SwayKind) (s : Sway) → sway_as plant ms kind ≡ Ok s → FitsSway plant s
 unfolding sway_as
 sway_as_fits plant ms sway_kinds.Low s h =
@@ -336,8 +345,18 @@ sway_as_fits plant ms sway_kinds.Seed s h =
     let ok = bind_ok (unless Unknown (all_among ms (codes "kind" ∷ codes "seed" ∷ codes "stream" ∷ []))) _ s stream.2 in
     let a = at_ok (codes "seed") (count greatest) ms seed.0 seed.1 in
     let b = at_ok (codes "stream") (count greatest) ms stream.0 stream.1 in
-    subst (FitsSway plant) (ok_same (Drawn seed.0 stream.0) s ok.2)
-    (omega (arith, count_small greatest a.0 seed.0 a.1), omega (arith, count_small greatest b.0 stream.0 b.1))
+    subst (FitsSway plant) (ok_same (Drawn Anywhere seed.0 stream.0) s ok.2)
+    (omega (arith, count_small greatest a.0 seed.0 a.1), omega (arith, count_small greatest b.0 stream.0 b.1), tt)
+sway_as_fits plant ms sway_kinds.Edge s h =
+    let held = bind_ok (at (codes "hold") hold ms) _ s h in
+    let seed = bind_ok (at (codes "seed") (count greatest) ms) _ s held.2 in
+    let stream = bind_ok (at (codes "stream") (count greatest) ms) _ s seed.2 in
+    let ok = bind_ok (unless Unknown (all_among ms edge_keys)) _ s stream.2 in
+    let c = at_ok (codes "hold") hold ms held.0 held.1 in
+    let a = at_ok (codes "seed") (count greatest) ms seed.0 seed.1 in
+    let b = at_ok (codes "stream") (count greatest) ms stream.0 stream.1 in
+    subst (FitsSway plant) (ok_same (Drawn (Ends held.0) seed.0 stream.0) s ok.2)
+    (omega (arith, count_small greatest a.0 seed.0 a.1), omega (arith, count_small greatest b.0 stream.0 b.1), hold_some c.0 held.0 c.1)
 
 sway_fits : (plant : PlantInfo) (d : Data) (s : Sway) → sway plant d ≡ Ok s → FitsSway plant s
 unfolding sway
@@ -415,9 +434,28 @@ crew_as_form guests done node ms crew_kinds.Wild c external h =
     let ok = bind_ok (unless Unknown (all_among ms (codes "kind" ∷ codes "seed" ∷ codes "stream" ∷ []))) _ c stream.2 in
     let a = at_ok (codes "seed") (count greatest) ms seed.0 seed.1 in
     let b = at_ok (codes "stream") (count greatest) ms stream.0 stream.1 in
-    subst (IsCrewAfter guests done node) (ok_same (Wild seed.0 stream.0) c ok.2)
+    subst (IsCrewAfter guests done node) (ok_same (Wild Anywhere seed.0 stream.0) c ok.2)
     (record {
-      fits = (external, omega (arith, count_small greatest a.0 seed.0 a.1), omega (arith, count_small greatest b.0 stream.0 b.1));
+      fits = (external, omega (arith, count_small greatest a.0 seed.0 a.1), omega (arith, count_small greatest b.0 stream.0 b.1), tt);
+      there = λ i e. cc;
+      once = λ i e. cc;
+    })
+crew_as_form guests done node ms crew_kinds.Edge c external h =
+    let held = bind_ok (at (codes "hold") hold ms) _ c h in
+    let seed = bind_ok (at (codes "seed") (count greatest) ms) _ c held.2 in
+    let stream = bind_ok (at (codes "stream") (count greatest) ms) _ c seed.2 in
+    let ok = bind_ok (unless Unknown (all_among ms edge_keys)) _ c stream.2 in
+    let e = at_ok (codes "hold") hold ms held.0 held.1 in
+    let a = at_ok (codes "seed") (count greatest) ms seed.0 seed.1 in
+    let b = at_ok (codes "stream") (count greatest) ms stream.0 stream.1 in
+    subst (IsCrewAfter guests done node) (ok_same (Wild (Ends held.0) seed.0 stream.0) c ok.2)
+    (record {
+      fits = (
+        external,
+        omega (arith, count_small greatest a.0 seed.0 a.1),
+        omega (arith, count_small greatest b.0 stream.0 b.1),
+        hold_some e.0 held.0 e.1,
+      );
       there = λ i e. cc;
       once = λ i e. cc;
     })

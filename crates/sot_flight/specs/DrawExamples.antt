@@ -1,8 +1,9 @@
 -- Worked words, numbers and rows, as statements that the functions of `facts` prove.
-use Rattle.std.specs.Prelude.{◌≡◌, ℕ, ℤ, pos, negsuc, List, [], ◌∷◌, Option, Some, None}
+use Rattle.std.specs.Prelude.{◌≡◌, ℕ, ℤ, pos, negsuc, List, [], ◌∷◌, map, Option, Some, None}
 use Rattle.sot_box.specs.Sides.{Side}
 use Rattle.sot_random_words.specs.Words.{word}
-use Rattle.sot_flight.specs.Draws.{drawn_from}
+use Rattle.sot_flight.specs.declared.spread.Spread.TheVariants.{Anywhere, Ends}
+use Rattle.sot_flight.specs.Draws.{drawn_from, turn}
 use Rattle.sot_flight.specs.Stated.{row_at}
 
 -- the first three words of seed 42 on stream 54
@@ -16,10 +17,19 @@ minus_one_to_one = record { lo = negsuc 0; hi = pos 1 }
 -- 2^32
 abbrev pub Numbers : Type 0
 Numbers =
-    (drawn_from 42 54 0 (minus_one_to_one ∷ minus_one_to_one ∷ minus_one_to_one ∷ [])
+    (drawn_from Anywhere 42 54 0 (minus_one_to_one ∷ minus_one_to_one ∷ minus_one_to_one ∷ [])
     ≡ negsuc 0 ∷ negsuc 0 ∷ pos 1 ∷ [])
-    × (drawn_from 42 54 1 (record { lo = pos 7; hi = pos 7 } ∷ []) ≡ pos 7 ∷ [])
-    × (drawn_from 42 54 1 (record { lo = pos 0; hi = pos 4294967295 } ∷ []) ≡ pos 0x7b47f409 ∷ [])
+    × (drawn_from Anywhere 42 54 1 (record { lo = pos 7; hi = pos 7 } ∷ []) ≡ pos 7 ∷ [])
+    × (drawn_from Anywhere 42 54 1 (record { lo = pos 0; hi = pos 4294967295 } ∷ []) ≡ pos 0x7b47f409 ∷ [])
+
+-- of a range the same words stand for its ends: the first two are odd, and the third is even. An end
+-- that is held for three ticks takes a new word each third one
+abbrev pub HeldEnds : Type 0
+HeldEnds =
+    (drawn_from (Ends 3) 42 54 0 (minus_one_to_one ∷ minus_one_to_one ∷ minus_one_to_one ∷ [])
+    ≡ pos 1 ∷ pos 1 ∷ negsuc 0 ∷ [])
+    × (map (turn (Ends 3)) (0 ∷ 2 ∷ 3 ∷ 5 ∷ 6 ∷ []) ≡ 0 ∷ 0 ∷ 1 ∷ 1 ∷ 2 ∷ [])
+    × (map (turn Anywhere) (0 ∷ 1 ∷ 2 ∷ []) ≡ 0 ∷ 1 ∷ 2 ∷ [])
 
 -- a list of one row goes on with it
 abbrev pub OneRow : Type 0

@@ -13,6 +13,7 @@ use Rattle.sot_lang.specs.TableRules.{IsCoded}
 use Rattle.sot_lang.specs.Ranges.{range_of, bounds}
 use Rattle.sot_flight.specs.Plans.{StatedInput, Plan, Sway, Still, Low, High, Listed, Drawn, Crew}
 use Rattle.sot_flight.specs.Plans.{Coded, Script, Wild, Guest}
+use Rattle.sot_flight.specs.Draws.{IsSpread}
 use Rattle.sot_flight.specs.Counts.{event_count, number_count}
 
 -- an input comes by the horizon, on an environment topic, with a number in its range for each
@@ -32,7 +33,8 @@ FitsSway plant Low = Unit {0}
 FitsSway plant High = Unit {0}
 FitsSway plant (Listed rows) =
     (rows ≢ []) × ((i : ℕ) (row : List ℤ) → At rows i row → IsWithin (bounds plant) row)
-FitsSway plant (Drawn seed stream) = (seed < 2 ^ 64) × (stream < 2 ^ 64)
+FitsSway plant (Drawn spread seed stream) =
+    (seed < 2 ^ 64) × (stream < 2 ^ 64) × IsSpread spread
 
 -- a coded node drafts by its code, and no other one does; in a script there is a draft, and each
 -- has a slot for each scalar that the node writes
@@ -42,7 +44,8 @@ FitsCrew node (Script drafts) =
     (node.body ≡ None) × (drafts ≢ [])
     × ((i : ℕ) (draft : List (Option ℤ)) → At drafts i draft
     → length draft ≡ length node.writes.items)
-FitsCrew node (Wild seed stream) = (node.body ≡ None) × (seed < 2 ^ 64) × (stream < 2 ^ 64)
+FitsCrew node (Wild spread seed stream) =
+    (node.body ≡ None) × (seed < 2 ^ 64) × (stream < 2 ^ 64) × IsSpread spread
 FitsCrew node (Guest index) = node.body ≡ None
 
 -- a flight of the program, whose guests are so many: at most 100,000 ticks; a point for each plant,

@@ -14,6 +14,7 @@ use Rattle.sot_json.specs.declared.fault.JsonKind.TheVariants.{NotJson, WrongSha
 use Rattle.sot_json.specs.declared.fault.JsonKind.TheVariants.{OutsideRange, Missing, Unknown}
 use Rattle.sot_json.specs.declared.fault.JsonKind.TheVariants.{Width, Empty, Order, NoGuest}
 use Rattle.sot_json.specs.declared.fault.JsonKind.TheVariants.{GuestTwice}
+use Rattle.sot_flight.specs.declared.spread.Spread.TheVariants.{Anywhere, Ends}
 use Rattle.sot_flight.specs.Plans.{Still, High, Listed, Drawn, Coded, Script, Wild, Guest}
 use Rattle.sot_flight.specs.FlightFormat.{flight_of}
 
@@ -119,8 +120,8 @@ module _ (g : Global) where
         inputs =
             record { at = 0; topic = 1; value = pos 9 ∷ pos 1 ∷ [] } ∷ record
             { at = 4; topic = 1; value = pos 0 ∷ pos 0 ∷ [] } ∷ [];
-        sways = Drawn 42 54 ∷ Still ∷ [];
-        crews = Wild 0 1000000000000 ∷ Coded ∷ Guest 1 ∷ [];
+        sways = Drawn Anywhere 42 54 ∷ Still ∷ [];
+        crews = Wild Anywhere 0 1000000000000 ∷ Coded ∷ Guest 1 ∷ [];
         events = 15;
         numbers = 23;
       })
@@ -142,6 +143,24 @@ module _ (g : Global) where
         crews =
             Script ((Some (pos 7) ∷ []) ∷ (None ∷ []) ∷ []) ∷ Coded ∷ Script ((None ∷ []) ∷ []) ∷
             [];
+        events = 4;
+        numbers = 3;
+      })
+
+  -- ends of ranges, which are held for 1 tick and for 100,000 firings
+  abbrev pub HeldEdges : Type 0
+  HeldEdges =
+      flight_of rich 0
+      (codes "{\"horizon\":0,\"format\":1,\"crew\":{\"aux\":{\"kind\":\"script\",\"drafts\":[["
+      ++ codes "null]]},\"fast\":{\"stream\":6,\"seed\":5,\"hold\":100000,\"kind\":\"edge\"}},"
+      ++ codes "\"sway\":{\"pos\":{\"kind\":\"edge\",\"hold\":1,\"seed\":42,\"stream\":54}},"
+      ++ codes "\"start\":{\"calm\":[0],\"pos\":[0]},\"inputs\":[]}")
+      ≡ Ok (record {
+        horizon = 0;
+        start = (pos 0 ∷ []) ∷ (pos 0 ∷ []) ∷ [];
+        inputs = [];
+        sways = Drawn (Ends 1) 42 54 ∷ Still ∷ [];
+        crews = Wild (Ends 100000) 5 6 ∷ Coded ∷ Script ((None ∷ []) ∷ []) ∷ [];
         events = 4;
         numbers = 3;
       })
@@ -266,6 +285,21 @@ module _ (g : Global) where
       OutsideRange
       × SwayFaultsAt (codes "{\"pos\":{\"kind\":\"seed\",\"seed\":0}}") (codes "/pos/stream")
       Missing
+      × SwayFaultsAt (codes "{\"pos\":{\"kind\":\"edge\",\"seed\":0,\"stream\":0}}") (codes "/pos/hold")
+      Missing
+      × SwayFaultsAt (codes "{\"pos\":{\"kind\":\"edge\",\"hold\":0,\"seed\":-1}}") (codes "/pos/hold")
+      OutsideRange
+      × SwayFaultsAt (codes "{\"pos\":{\"kind\":\"edge\",\"hold\":100001}}") (codes "/pos/hold")
+      OutsideRange
+      × SwayFaultsAt (codes "{\"pos\":{\"kind\":\"edge\",\"hold\":[1]}}") (codes "/pos/hold")
+      WrongShape
+      × SwayFaultsAt (codes "{\"pos\":{\"kind\":\"edge\",\"hold\":1,\"stream\":0}}") (codes "/pos/seed")
+      Missing
+      × SwayFaultsAt
+      (codes "{\"pos\":{\"kind\":\"edge\",\"hold\":1,\"seed\":0,\"stream\":0,\"x\":0}}") (codes "/pos")
+      Unknown
+      × SwayFaultsAt (codes "{\"pos\":{\"kind\":\"seed\",\"hold\":1,\"seed\":0,\"stream\":0}}")
+      (codes "/pos") Unknown
       × SwayFaultsAt (codes "{\"pos\":{\"kind\":\"high\"},\"calm\":{\"kind\":\"high\"}}") [] Unknown
 
   -- a crew for each external node, by its kind, and no other one
@@ -281,6 +315,10 @@ module _ (g : Global) where
       (codes "/fast/drafts/1/0") WrongShape
       × CrewFaultsAt (codes "{\"fast\":{\"kind\":\"wild\",\"seed\":0,\"stream\":1000000000001}}")
       (codes "/fast/stream") OutsideRange
+      × CrewFaultsAt (codes "{\"fast\":{\"kind\":\"edge\",\"seed\":0,\"stream\":0}}")
+      (codes "/fast/hold") Missing
+      × CrewFaultsAt (codes "{\"fast\":{\"kind\":\"edge\",\"hold\":0,\"seed\":0,\"stream\":0}}")
+      (codes "/fast/hold") OutsideRange
       × CrewFaultsAt (codes "{\"fast\":{\"kind\":\"guest\",\"index\":2}}") (codes "/fast/index")
       NoGuest
       × CrewFaultsAt

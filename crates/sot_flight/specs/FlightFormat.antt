@@ -14,13 +14,14 @@ use Rattle.sot_lang.specs.Tables.{Tables}
 use Rattle.sot_lang.specs.Ranges.{bounds, scalar_ranges}
 use Rattle.sot_json.specs.declared.fault.JsonKind.TheVariants.{NotJson, WrongShape, Unknown, Order}
 use Rattle.sot_json.specs.declared.fault.JsonKind.TheVariants.{NoGuest, GuestTwice, TooManyEvents}
-use Rattle.sot_json.specs.declared.fault.JsonKind.TheVariants.{TooManyNumbers}
+use Rattle.sot_json.specs.declared.fault.JsonKind.TheVariants.{TooManyNumbers, OutsideRange}
 use Rattle.sot_json.specs.Says.{Says, ◌>>=◌, or, unless}
 use Rattle.sot_json.specs.Json.{json_of, whole, count, each_after, at, all_among}
 use Rattle.sot_flight.specs.declared.sway.SwayKind.{SwayKind}
 use Rattle.sot_flight.specs.declared.sway.SwayKind.TheVariants as sway_kinds
 use Rattle.sot_flight.specs.declared.crew.CrewKind.{CrewKind}
 use Rattle.sot_flight.specs.declared.crew.CrewKind.TheVariants as crew_kinds
+use Rattle.sot_flight.specs.declared.spread.Spread.TheVariants.{Anywhere, Ends}
 use Rattle.sot_flight.specs.Plans.{StatedInput, Plan, Sway, Still, Low, High, Listed, Drawn, Crew}
 use Rattle.sot_flight.specs.Plans.{Coded, Script, Wild, Guest}
 use Rattle.sot_flight.specs.Counts.{events_of, numbers_of}
@@ -98,18 +99,30 @@ inputs p horizon d = do
 
 -- ---- what drives disturbances
 
+-- for how many ticks, or firings, an end is held
+unfoldable pub hold : Data → Says ℕ
+hold d = do
+  n ← count 100000 d
+  some ← unless OutsideRange (nat_lt 0 n)
+  Ok n
+
 abbrev pub sway_kind_of : List ℕ → Option SwayKind
 sway_kind_of s =
     if bytes_eq s (codes "low") then Some sway_kinds.Low
     else (if bytes_eq s (codes "high") then Some sway_kinds.High
     else (if bytes_eq s (codes "list") then Some sway_kinds.List
-    else (if bytes_eq s (codes "seed") then Some sway_kinds.Seed else None)))
+    else (if bytes_eq s (codes "seed") then Some sway_kinds.Seed
+    else (if bytes_eq s (codes "edge") then Some sway_kinds.Edge else None))))
 
 -- one of the words for the kinds of sways
 unfoldable pub sway_kind : Data → Says SwayKind
 sway_kind d = do
   s ← or WrongShape (as_str d)
   or WrongShape (sway_kind_of s)
+
+-- the keys of a sway, or of a crew, whose words stand for ends
+abbrev pub edge_keys : List (List ℕ)
+edge_keys = codes "kind" ∷ codes "hold" ∷ codes "seed" ∷ codes "stream" ∷ []
 
 -- what a sway of that kind says beside its kind
 unfoldable pub sway_as : PlantInfo → Members → SwayKind → Says Sway
@@ -127,7 +140,13 @@ sway_as plant ms sway_kinds.Seed = do
   seed ← at (codes "seed") (count greatest) ms
   stream ← at (codes "stream") (count greatest) ms
   ok ← unless Unknown (all_among ms (codes "kind" ∷ codes "seed" ∷ codes "stream" ∷ []))
-  Ok (Drawn seed stream)
+  Ok (Drawn Anywhere seed stream)
+sway_as plant ms sway_kinds.Edge = do
+  held ← at (codes "hold") hold ms
+  seed ← at (codes "seed") (count greatest) ms
+  stream ← at (codes "stream") (count greatest) ms
+  ok ← unless Unknown (all_among ms edge_keys)
+  Ok (Drawn (Ends held) seed stream)
 
 -- a sway: an object with its kind
 unfoldable pub sway : PlantInfo → Data → Says Sway
@@ -157,7 +176,8 @@ abbrev pub crew_kind_of : List ℕ → Option CrewKind
 crew_kind_of s =
     if bytes_eq s (codes "script") then Some crew_kinds.Script
     else (if bytes_eq s (codes "wild") then Some crew_kinds.Wild
-    else (if bytes_eq s (codes "guest") then Some crew_kinds.Guest else None))
+    else (if bytes_eq s (codes "edge") then Some crew_kinds.Edge
+    else (if bytes_eq s (codes "guest") then Some crew_kinds.Guest else None)))
 
 -- one of the words for the kinds of crews
 unfoldable pub crew_kind : Data → Says CrewKind
@@ -168,7 +188,7 @@ crew_kind d = do
 abbrev pub is_guest : ℕ → Crew → Bool
 is_guest i Coded = false
 is_guest i (Script drafts) = false
-is_guest i (Wild seed stream) = false
+is_guest i (Wild spread seed stream) = false
 is_guest i (Guest j) = j == i
 
 -- the number of a guest, below the count of guests, that stands at no earlier node
@@ -189,7 +209,13 @@ crew_as guests done node ms crew_kinds.Wild = do
   seed ← at (codes "seed") (count greatest) ms
   stream ← at (codes "stream") (count greatest) ms
   ok ← unless Unknown (all_among ms (codes "kind" ∷ codes "seed" ∷ codes "stream" ∷ []))
-  Ok (Wild seed stream)
+  Ok (Wild Anywhere seed stream)
+crew_as guests done node ms crew_kinds.Edge = do
+  held ← at (codes "hold") hold ms
+  seed ← at (codes "seed") (count greatest) ms
+  stream ← at (codes "stream") (count greatest) ms
+  ok ← unless Unknown (all_among ms edge_keys)
+  Ok (Wild (Ends held) seed stream)
 crew_as guests done node ms crew_kinds.Guest = do
   i ← at (codes "index") (guest guests done) ms
   ok ← unless Unknown (all_among ms (codes "kind" ∷ codes "index" ∷ []))

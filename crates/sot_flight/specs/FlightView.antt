@@ -15,12 +15,12 @@ sway_of kept_sways.Still = Still
 sway_of kept_sways.Low = Low
 sway_of kept_sways.High = High
 sway_of (kept_sways.Listed rows) = Listed (map (λ row. row.items) rows.items)
-sway_of (kept_sways.Drawn seed stream) = Drawn seed stream
+sway_of (kept_sways.Drawn spread seed stream) = Drawn spread seed stream
 
 abbrev pub crew_of : kept_crew.Crew → Crew
 crew_of kept_crews.Coded = Coded
 crew_of (kept_crews.Script drafts) = Script (map (λ draft. draft.items) drafts.items)
-crew_of (kept_crews.Wild seed stream) = Wild seed stream
+crew_of (kept_crews.Wild spread seed stream) = Wild spread seed stream
 crew_of (kept_crews.Guest index) = Guest index
 
 abbrev pub input_of : Input → StatedInput

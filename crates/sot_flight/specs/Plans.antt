@@ -1,5 +1,6 @@
 -- What contracts see of a flight.
 use Rattle.std.specs.Prelude.{ℕ, ℤ, List, Option}
+use Rattle.sot_flight.specs.declared.spread.Spread.{Spread}
 
 -- an input: the time at which it comes, its topic, and a number for each scalar of the topic
 pub record StatedInput : Type 0 where
@@ -8,20 +9,22 @@ pub record StatedInput : Type 0 where
   pub value : List ℤ
 
 -- what drives the disturbances of a plant: none, where it has none; the low or the high bound of
--- each; a list of disturbances for each tick, of which the last one stays; or words of a generator
+-- each; a list of disturbances for each tick, of which the last one stays; or words of a generator,
+-- which stand for any number in the bounds or for held ends of them
 pub data Sway : Type 0 where
   Still : Sway
   Low : Sway
   High : Sway
   Listed : (rows : List (List ℤ)) → Sway
-  Drawn : (seed stream : ℕ) → Sway
+  Drawn : (spread : Spread) (seed stream : ℕ) → Sway
 
 -- who drafts for a node: its own code; a list of drafts for each firing, of which the last one
--- stays; words of a generator; or the guest of that number
+-- stays; words of a generator, which stand for any number of a range or for held ends; or the guest
+-- of that number
 pub data Crew : Type 0 where
   Coded : Crew
   Script : (drafts : List (List (Option ℤ))) → Crew
-  Wild : (seed stream : ℕ) → Crew
+  Wild : (spread : Spread) (seed stream : ℕ) → Crew
   Guest : (index : ℕ) → Crew
 
 -- a flight: how many ticks it has, where its plants start, its inputs in order, a sway for each

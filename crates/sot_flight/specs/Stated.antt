@@ -6,7 +6,7 @@ use Rattle.sot_lang.specs.Tables.{Tables}
 use Rattle.sot_lang.specs.Ranges.{bounds, write_ranges}
 use Rattle.sot_flight.specs.Plans.{Plan, Sway, Still, Low, High, Listed, Drawn, Crew, Coded, Script}
 use Rattle.sot_flight.specs.Plans.{Wild, Guest}
-use Rattle.sot_flight.specs.Draws.{drawn_from}
+use Rattle.sot_flight.specs.Draws.{drawn_from, turn}
 
 -- the row of that number, and past the last row that one again
 abbrev pub row_at : {A : Type 0} → List (List A) → ℕ → List A
@@ -21,8 +21,8 @@ noise_of plant Still t = []
 noise_of plant Low t = map (λ r. r.lo) (bounds plant)
 noise_of plant High t = map (λ r. r.hi) (bounds plant)
 noise_of plant (Listed rows) t = row_at rows t
-noise_of plant (Drawn seed stream) t =
-    drawn_from seed stream (t * length plant.noise.items) (bounds plant)
+noise_of plant (Drawn spread seed stream) t =
+    drawn_from spread seed stream (turn spread t * length plant.noise.items) (bounds plant)
 
 -- the disturbances of each of these plants for tick t
 abbrev pub noises : List PlantInfo → List Sway → ℕ → List (List ℤ)
@@ -39,6 +39,7 @@ stated_noise p f t = noises p.plants f.sways t
 abbrev pub draft_of : Tables → NodeInfo → Crew → ℕ → Option (List (Option ℤ))
 draft_of p node Coded f = None
 draft_of p node (Script drafts) f = Some (row_at drafts f)
-draft_of p node (Wild seed stream) f =
-    Some (map Some (drawn_from seed stream (f * length node.writes.items) (write_ranges p node)))
+draft_of p node (Wild spread seed stream) f =
+    Some (map Some (drawn_from spread seed stream (turn spread f * length node.writes.items)
+    (write_ranges p node)))
 draft_of p node (Guest index) f = None

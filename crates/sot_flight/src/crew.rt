@@ -1,5 +1,7 @@
 //! Who drafts for a node.
 
+use crate::spread::Spread;
+
 /// Who drafts for a node.
 #[derive(Drop)]
 pub(crate) enum Crew {
@@ -9,7 +11,11 @@ pub(crate) enum Crew {
     /// stays.
     Script(Vec<Vec<Option<i64>>>),
     /// Words of a generator, one a scalar that the node writes.
-    Wild { seed: u64, stream: u64 },
+    Wild {
+        spread: Spread,
+        seed: u64,
+        stream: u64,
+    },
     /// The guest of this number.
     Guest(u32),
 }
@@ -19,5 +25,6 @@ pub(crate) enum Crew {
 pub enum CrewKind {
     Script,
     Wild,
+    Edge,
     Guest,
 }

@@ -1,19 +1,24 @@
 //! Who drafts for the nodes, from JSON.
 
-ghost use Rattle.std.specs.Prelude.{◌≡◌, ◌<◌, [], length, map, codes};
+ghost use Rattle.std.specs.Prelude.{◌≡◌, ℕ, ◌<◌, List, [], length, map, codes};
 ghost use Rattle.std.specs.List.{list_any};
 ghost use Rattle.serde_json.specs.View.{view, members_view};
+ghost use Rattle.sot_lang.specs.declared.tables.NodeInfo.{NodeInfo};
 ghost use Rattle.sot_json.specs.Json.{at};
 ghost use Rattle.sot_json.specs.Answers.{Gives};
 ghost use Rattle.sot_flight.specs.ListForms.{drafts, for_each_after};
 ghost use Rattle.sot_flight.specs.FlightView.{crew_of};
+ghost use Rattle.sot_flight.specs.Plans as plans;
+ghost use Rattle.sot_flight.specs.declared.crew.CrewKind.TheVariants as crew_kinds;
 ghost use Rattle.sot_flight.specs.FlightFormat.{crew_kind, is_guest, guest as guest_says, crew_as};
 ghost use Rattle.sot_flight.specs.FlightFormat.{crew as crew_says, crew_at as crew_at_says};
 ghost use Rattle.sot_flight.specs.FlightFormat.{crews as crews_say};
 
 use crate::crew::{Crew, CrewKind};
+use crate::hold::hold_at;
 use crate::keys::{GREATEST, count_at, has_only_external};
 use crate::lists::drafts_of;
+use crate::spread::Spread;
 use serde_json::{Map, Value};
 use sot_json::{JsonFail, JsonKind, count_of, fault_at, has_only, needed, part_of};
 use sot_lang::{NodeInfo, Typed};
@@ -30,6 +35,8 @@ fn kind_of(alloc: Global, value: &Value) -> Result<CrewKind, JsonFail>
         Ok(CrewKind::Script)
     } else if text == "wild" {
         Ok(CrewKind::Wild)
+    } else if text == "edge" {
+        Ok(CrewKind::Edge)
     } else if text == "guest" {
         Ok(CrewKind::Guest)
     } else {
@@ -111,6 +118,26 @@ fn guest_at(
     part_of(alloc, "index", guest_of(alloc, guests, done, value))
 }
 
+// A crew whose words stand for held ends of ranges.
+#[tactic(auto, unfolding(crate::specs::FlightFormat::crew_as))]
+fn edge_crew(alloc: Global, object: &Map<String, Value>) -> Result<Crew, JsonFail>
+    ensures { (guests : ℕ) (done : List plans.Crew) (node : NodeInfo) → Gives crew_of result
+        (crew_as guests done node (members_view object.now.entries) crew_kinds.Edge) }
+{
+    let hold = hold_at(alloc, object)?;
+    let seed = count_at(alloc, "seed", GREATEST, object)?;
+    let stream = count_at(alloc, "stream", GREATEST, object)?;
+    if !has_only(object, &["kind", "hold", "seed", "stream"]) {
+        return Err(fault_at(alloc, JsonKind::Unknown));
+    }
+    let spread = Spread::Ends(hold);
+    Ok(Crew::Wild {
+        spread,
+        seed,
+        stream,
+    })
+}
+
 #[tactic(auto, unfolding(crate::specs::FlightFormat::crew_as))]
 fn crew_as_kind(
     alloc: Global,
@@ -137,8 +164,14 @@ fn crew_as_kind(
             if !has_only(object, &["kind", "seed", "stream"]) {
                 return Err(fault_at(alloc, JsonKind::Unknown));
             }
-            Ok(Crew::Wild { seed, stream })
+            let spread = Spread::Anywhere;
+            Ok(Crew::Wild {
+                spread,
+                seed,
+                stream,
+            })
         }
+        CrewKind::Edge => edge_crew(alloc, object),
         CrewKind::Guest => {
             let index = guest_at(alloc, guests, done, object)?;
             if !has_only(object, &["kind", "index"]) {

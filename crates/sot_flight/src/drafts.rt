@@ -5,7 +5,7 @@ ghost use Rattle.sot_lists.specs.Places.{At, Has};
 ghost use Rattle.sot_lang.specs.declared.tables.NodeInfo.{NodeInfo};
 ghost use Rattle.sot_lang.specs.Ranges.{write_ranges};
 ghost use Rattle.sot_code.specs.Recorded.{in_slots};
-ghost use Rattle.sot_flight.specs.Draws.{drawn_from};
+ghost use Rattle.sot_flight.specs.Draws.{IsSpread, drawn_from, turn};
 ghost use Rattle.sot_flight.specs.Stated.{draft_of};
 ghost use Rattle.sot_flight.specs.Fits.{FitsCrew};
 ghost use Rattle.sot_flight.specs.FlightView.{crew_of};
@@ -13,6 +13,7 @@ ghost use Rattle.sot_flight.specs.FlightView.{crew_of};
 use crate::crew::Crew;
 use crate::draws::{draw, words_from};
 use crate::rows::row_of;
+use crate::spread::{Spread, turn_of};
 use sot_lang::{Draft, NodeInfo, Typed};
 
 // A draft of a script, in eight slots.
@@ -31,19 +32,27 @@ fn script_draft(row: &[Option<i64>]) -> Draft
 
 // A number in its range for each scalar that a node writes, from that firing's first word on, in
 // eight slots.
-fn wild_draft(p: &Typed, info: &NodeInfo, seed: u64, stream: u64, firing: u32) -> Draft
+fn wild_draft(
+    p: &Typed,
+    info: &NodeInfo,
+    spread: Spread,
+    seed: u64,
+    stream: u64,
+    firing: u32,
+) -> Draft
     requires is { Has p.now.nodes info.now }
     requires few { length info.now.writes.items ≤ 8 }
+    requires spread { IsSpread spread }
     ensures { result ≡ in_slots (map Some
-        (drawn_from seed stream (firing * length info.now.writes.items)
+        (drawn_from spread seed stream (turn spread firing * length info.now.writes.items)
         (write_ranges p.now info.now))) }
 {
-    let given = u64::from(firing) * info.writes.len() as u64;
+    let given = u64::from(turn_of(spread, firing)) * info.writes.len() as u64;
     let mut words = words_from(seed, stream, given);
     let mut draft = Draft::blank();
     for i in 0..info.writes.len() {
         let scalar = &p.scalars[info.writes[i] as usize];
-        draft.set(i, draw(&mut words, scalar.lo, scalar.hi));
+        draft.set(i, draw(&mut words, spread, scalar.lo, scalar.hi));
     }
     draft
 }
@@ -60,7 +69,11 @@ pub(crate) fn stated_draft(p: &Typed, node: u32, crew: &Crew, firing: u32) -> Op
     match crew {
         Crew::Coded => None,
         Crew::Script(drafts) => Some(script_draft(row_of(drafts, firing))),
-        Crew::Wild { seed, stream } => Some(wild_draft(p, info, *seed, *stream, firing)),
+        Crew::Wild {
+            spread,
+            seed,
+            stream,
+        } => Some(wild_draft(p, info, *spread, *seed, *stream, firing)),
         Crew::Guest(_) => None,
     }
 }

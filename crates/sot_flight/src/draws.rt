@@ -6,9 +6,11 @@ ghost use Rattle.rand_pcg.specs.Pcg.{multiplier_64, output_xsh_rr};
 ghost use Rattle.sot_lang.specs.TableRules.{IsNarrow};
 ghost use Rattle.sot_random_words.specs.Words.{words_from as words_from_word};
 ghost use Rattle.sot_flight.specs.Draws.{drawn};
+ghost use Rattle.sot_flight.specs.declared.spread.Spread.TheVariants.{Anywhere};
 ghost use Rattle.sot_flight.specs.Jumps.{IsListed};
 
 use crate::few_words::JUMPS;
+use crate::spread::Spread;
 use rand_core::utils::NextWord;
 use rand_pcg::Pcg32;
 use std::marker::Model;
@@ -130,13 +132,27 @@ pub(crate) fn words_from(seed: u64, stream: u64, given: u64) -> Pcg32
     words
 }
 
-/// The number of a range that the next word stands for.
-pub(crate) fn draw(words: &mut Pcg32, lo: i64, hi: i64) -> i64
+// Any number of a range, as a word stands for it.
+fn anywhere(word: u32, lo: i64, hi: i64) -> i64
     requires { IsNarrow lo hi }
-    ensures value { result ≡ drawn (record { lo = lo; hi = hi }) (output_xsh_rr words.old.state) }
-    ensures next { words.new ≡ next 64 multiplier_64 words.old }
+    ensures { result ≡ drawn Anywhere (record { lo = lo; hi = hi }) word }
 {
     let width = (hi - lo + 1) as u64;
-    let place = u64::from(words.next_word()) % width;
+    let place = u64::from(word) % width;
     lo + place as i64
+}
+
+/// The number of a range that the next word stands for.
+pub(crate) fn draw(words: &mut Pcg32, spread: Spread, lo: i64, hi: i64) -> i64
+    requires { IsNarrow lo hi }
+    ensures value { result ≡ drawn spread (record { lo = lo; hi = hi })
+        (output_xsh_rr words.old.state) }
+    ensures next { words.new ≡ next 64 multiplier_64 words.old }
+{
+    let word = words.next_word();
+    match spread {
+        Spread::Anywhere => anywhere(word, lo, hi),
+        Spread::Ends(_) if word % 2 == 0 => lo,
+        Spread::Ends(_) => hi,
+    }
 }

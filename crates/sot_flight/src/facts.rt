@@ -1,8 +1,9 @@
 //! Worked words, numbers, rows and flights, as facts that the check computes from the definitions.
 
 ghost use Rattle.std.specs.Global.{Global};
-ghost use Rattle.sot_flight.specs.DrawExamples.{Words, Numbers, OneRow, TwoRows};
+ghost use Rattle.sot_flight.specs.DrawExamples.{Words, Numbers, HeldEnds, OneRow, TwoRows};
 ghost use Rattle.sot_flight.specs.FlightExamples.{OnTheLine, OfEachKind, LastOfRepeated, Keys};
+ghost use Rattle.sot_flight.specs.FlightExamples.{HeldEdges};
 ghost use Rattle.sot_flight.specs.FlightExamples.{Horizons, Starts, InputFaults, SwayFaults};
 ghost use Rattle.sot_flight.specs.FlightExamples.{CrewFaults};
 
@@ -10,6 +11,7 @@ ghost use Rattle.sot_flight.specs.FlightExamples.{CrewFaults};
 pub fn draws_are_as_stated()
     ensures words { Words }
     ensures numbers { Numbers }
+    ensures ends { HeldEnds }
 {}
 
 /// Rows that are stated one after another, of which the last one stays.
@@ -23,6 +25,7 @@ pub fn flights_are_as_stated()
     ensures line { (g : Global) → OnTheLine g }
     ensures kinds { (g : Global) → OfEachKind g }
     ensures repeated { (g : Global) → LastOfRepeated g }
+    ensures edges { (g : Global) → HeldEdges g }
 {}
 
 /// The first faults of texts.

@@ -8,6 +8,7 @@ ghost use Rattle.sot_lang.specs.declared.tables.PlantInfo.{PlantInfo};
 ghost use Rattle.sot_lang.specs.Ranges.{bounds};
 ghost use Rattle.sot_lang.specs.Ticks.{joined};
 ghost use Rattle.sot_flight.specs.Draws.{drawn_from};
+ghost use Rattle.sot_flight.specs.declared.spread.Spread.{Spread};
 ghost use Rattle.sot_flight.specs.Stated.{noise_of, noises};
 ghost use Rattle.sot_flight.specs.Fits.{FitsSway};
 ghost use Rattle.sot_flight.specs.NoiseRules.{HasNarrowNoise};
@@ -15,6 +16,7 @@ ghost use Rattle.sot_flight.specs.FlightView.{sway_of};
 
 use crate::draws::{Jump, draw, words_from};
 use crate::rows::row_of;
+use crate::spread::{Spread, turn_of};
 use crate::sway::Sway;
 use sot_lang::{PlantInfo, Typed};
 
@@ -57,6 +59,7 @@ fn put_highs(plant: &PlantInfo, first: usize, numbers: &mut [i64])
 // Plants with as many disturbances share a jump.
 fn put_drawn(
     plant: &PlantInfo,
+    spread: Spread,
     seed: u64,
     stream: u64,
     given: u64,
@@ -68,13 +71,13 @@ fn put_drawn(
     requires room { first + length plant.now.noise.items ≤ length numbers.old }
     ensures size { length numbers.new ≡ length numbers.old }
     ensures front { take (first + length plant.now.noise.items) numbers.new
-        ≡ take first numbers.old ++ drawn_from seed stream given (bounds plant.now) }
+        ≡ take first numbers.old ++ drawn_from spread seed stream given (bounds plant.now) }
 {
     jump.turn_to(given);
     let mut words = jump.words_from(seed, stream);
     for i in 0..plant.noise.len() {
         let info = &plant.noise[i];
-        numbers[first + i] = draw(&mut words, info.lo, info.hi);
+        numbers[first + i] = draw(&mut words, spread, info.lo, info.hi);
     }
 }
 
@@ -99,9 +102,13 @@ pub(crate) fn put_noise(
         Sway::Low => put_lows(plant, first, numbers),
         Sway::High => put_highs(plant, first, numbers),
         Sway::Listed(rows) => put_row(row_of(rows, tick), first, numbers),
-        Sway::Drawn { seed, stream } => {
-            let given = u64::from(tick) * plant.noise.len() as u64;
-            put_drawn(plant, *seed, *stream, given, jump, first, numbers)
+        Sway::Drawn {
+            spread,
+            seed,
+            stream,
+        } => {
+            let given = u64::from(turn_of(*spread, tick)) * plant.noise.len() as u64;
+            put_drawn(plant, *spread, *seed, *stream, given, jump, first, numbers)
         }
     }
 }
@@ -119,9 +126,15 @@ pub(crate) fn noise_at(plant: &PlantInfo, sway: &Sway, tick: u32, i: usize) -> i
         Sway::Low => info.lo,
         Sway::High => info.hi,
         Sway::Listed(rows) => row_of(rows, tick)[i],
-        Sway::Drawn { seed, stream } => {
-            let given = u64::from(tick) * plant.noise.len() as u64 + i as u64;
-            draw(&mut words_from(*seed, *stream, given), info.lo, info.hi)
+        Sway::Drawn {
+            spread,
+            seed,
+            stream,
+        } => {
+            let turn = turn_of(*spread, tick);
+            let given = u64::from(turn) * plant.noise.len() as u64 + i as u64;
+            let mut words = words_from(*seed, *stream, given);
+            draw(&mut words, *spread, info.lo, info.hi)
         }
     }
 }

@@ -139,7 +139,12 @@ fn copy_sway(alloc: Global, sway: &Sway) -> Result<Sway, AllocError>
         Sway::Low => Ok(Sway::Low),
         Sway::High => Ok(Sway::High),
         Sway::Listed(rows) => Ok(Sway::Listed(copy_rows(alloc, rows)?)),
-        Sway::Drawn { seed, stream } => Ok(Sway::Drawn {
+        Sway::Drawn {
+            spread,
+            seed,
+            stream,
+        } => Ok(Sway::Drawn {
+            spread: *spread,
             seed: *seed,
             stream: *stream,
         }),
@@ -152,7 +157,12 @@ fn copy_crew(alloc: Global, crew: &Crew) -> Result<Crew, AllocError>
     match crew {
         Crew::Coded => Ok(Crew::Coded),
         Crew::Script(drafts) => Ok(Crew::Script(copy_rows(alloc, drafts)?)),
-        Crew::Wild { seed, stream } => Ok(Crew::Wild {
+        Crew::Wild {
+            spread,
+            seed,
+            stream,
+        } => Ok(Crew::Wild {
+            spread: *spread,
             seed: *seed,
             stream: *stream,
         }),

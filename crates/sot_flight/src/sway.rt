@@ -1,5 +1,7 @@
 //! What drives the disturbances of a plant.
 
+use crate::spread::Spread;
+
 /// What drives the disturbances of a plant.
 #[derive(Drop)]
 pub(crate) enum Sway {
@@ -12,7 +14,11 @@ pub(crate) enum Sway {
     /// A list of disturbances for each tick; the last one stays.
     Listed(Vec<Vec<i64>>),
     /// Words of a generator, one a disturbance.
-    Drawn { seed: u64, stream: u64 },
+    Drawn {
+        spread: Spread,
+        seed: u64,
+        stream: u64,
+    },
 }
 
 /// How a sway says what drives the disturbances.
@@ -22,4 +28,5 @@ pub enum SwayKind {
     High,
     List,
     Seed,
+    Edge,
 }

@@ -2,18 +2,22 @@
 
 ghost use Rattle.std.specs.Prelude.{◌≡◌, ◌<◌, [], length, map, codes};
 ghost use Rattle.serde_json.specs.View.{view, members_view};
+ghost use Rattle.sot_lang.specs.declared.tables.PlantInfo.{PlantInfo};
 ghost use Rattle.sot_lang.specs.Ranges.{bounds};
 ghost use Rattle.sot_json.specs.Json.{at};
 ghost use Rattle.sot_json.specs.Answers.{Gives};
 ghost use Rattle.sot_flight.specs.ListForms.{rows_in, for_each_after};
 ghost use Rattle.sot_flight.specs.NoiseRules.{HasNarrowNoise};
 ghost use Rattle.sot_flight.specs.FlightView.{sway_of};
+ghost use Rattle.sot_flight.specs.declared.sway.SwayKind.TheVariants as sway_kinds;
 ghost use Rattle.sot_flight.specs.FlightFormat.{sway_kind, sway_as, sway as sway_says};
 ghost use Rattle.sot_flight.specs.FlightFormat.{sway_at as sway_at_says, sways as sways_say};
 
+use crate::hold::hold_at;
 use crate::keys::{GREATEST, count_at, has_only_disturbed};
 use crate::lists::rows_in_of;
 use crate::ranges::bounds_of;
+use crate::spread::Spread;
 use crate::sway::{Sway, SwayKind};
 use serde_json::{Map, Value};
 use sot_json::{JsonFail, JsonKind, fault_at, has_only, needed, part_of};
@@ -35,6 +39,8 @@ fn kind_of(alloc: Global, value: &Value) -> Result<SwayKind, JsonFail>
         Ok(SwayKind::List)
     } else if text == "seed" {
         Ok(SwayKind::Seed)
+    } else if text == "edge" {
+        Ok(SwayKind::Edge)
     } else {
         Err(fault_at(alloc, JsonKind::WrongShape))
     }
@@ -62,6 +68,26 @@ fn rows_at(
     let value = needed(alloc, object, "values")?;
     let ranges = bounds_of(alloc, plant)?;
     part_of(alloc, "values", rows_in_of(alloc, &ranges, value))
+}
+
+// A sway whose words stand for held ends of the bounds.
+#[tactic(auto, unfolding(crate::specs::FlightFormat::sway_as))]
+fn edge_sway(alloc: Global, object: &Map<String, Value>) -> Result<Sway, JsonFail>
+    ensures { (plant : PlantInfo) → Gives sway_of result
+        (sway_as plant (members_view object.now.entries) sway_kinds.Edge) }
+{
+    let hold = hold_at(alloc, object)?;
+    let seed = count_at(alloc, "seed", GREATEST, object)?;
+    let stream = count_at(alloc, "stream", GREATEST, object)?;
+    if !has_only(object, &["kind", "hold", "seed", "stream"]) {
+        return Err(fault_at(alloc, JsonKind::Unknown));
+    }
+    let spread = Spread::Ends(hold);
+    Ok(Sway::Drawn {
+        spread,
+        seed,
+        stream,
+    })
 }
 
 #[tactic(auto, unfolding(crate::specs::FlightFormat::sway_as))]
@@ -100,8 +126,14 @@ fn sway_as_kind(
             if !has_only(object, &["kind", "seed", "stream"]) {
                 return Err(fault_at(alloc, JsonKind::Unknown));
             }
-            Ok(Sway::Drawn { seed, stream })
+            let spread = Spread::Anywhere;
+            Ok(Sway::Drawn {
+                spread,
+                seed,
+                stream,
+            })
         }
+        SwayKind::Edge => edge_sway(alloc, object),
     }
 }
 

@@ -6,7 +6,7 @@ use Rattle.sot_lang.specs.declared.tables.NodeInfo.{NodeInfo}
 use Rattle.sot_lang.specs.Tables.{Tables}
 use Rattle.sot_flight.specs.Plans.{Sway, Still, Low, High, Listed, Drawn, Crew, Coded, Script, Wild, Guest}
 use Rattle.sot_flight.specs.Stated.{noise_of, noises, draft_of}
-use Rattle.sot_flight.specs.Draws.{drawn_from}
+use Rattle.sot_flight.specs.Draws.{drawn_from, turn}
 use Rattle.sot_typing.specs.Resolved.{plant_seen, node_seen, tables_seen}
 use Rattle.sot_law_equal_flights.proofs.Parts.{bounds_same, write_ranges_same}
 
@@ -15,7 +15,7 @@ noise_same x y alike Still t = refl
 noise_same x y alike Low t = ap (map (λ (r : Side). r.lo)) (bounds_same x y alike)
 noise_same x y alike High t = ap (map (λ (r : Side). r.hi)) (bounds_same x y alike)
 noise_same x y alike (Listed rows) t = refl
-noise_same x y alike (Drawn seed stream) t = λ i. drawn_from seed stream (t * length (alike i).noise) (bounds_same x y alike i)
+noise_same x y alike (Drawn spread seed stream) t = λ i. drawn_from spread seed stream (turn spread t * length (alike i).noise) (bounds_same x y alike i)
 
 -- the disturbances of plants that look the same
 pub noises_same : (xs ys : List PlantInfo) → map plant_seen xs ≡ map plant_seen ys → (sways : List Sway) (t : ℕ) → noises xs sways t ≡ noises ys sways t
@@ -33,6 +33,6 @@ pub draft_same : (t u : Tables) → tables_seen t ≡ tables_seen u → (x y : N
     → draft_of t x crew f ≡ draft_of u y crew f
 draft_same t u same x y alike Coded f = refl
 draft_same t u same x y alike (Script drafts) f = refl
-draft_same t u same x y alike (Wild seed stream) f =
-    λ i. Some (map Some (drawn_from seed stream (f * length (alike i).writes) (write_ranges_same t u same x y alike i)))
+draft_same t u same x y alike (Wild spread seed stream) f =
+    λ i. Some (map Some (drawn_from spread seed stream (turn spread f * length (alike i).writes) (write_ranges_same t u same x y alike i)))
 draft_same t u same x y alike (Guest index) f = refl

@@ -79,6 +79,7 @@ module _ (x y : PlantInfo) (same : plant_seen x ≡ plant_seen y) where
     ok ← unless Unknown (all_among ms (codes "kind" ∷ codes "values" ∷ []))
     Ok (Listed rows)
   sway_as_same ms sway_kinds.Seed = refl
+  sway_as_same ms sway_kinds.Edge = refl
 
   sway_same : (d : Data) → sway x d ≡ sway y d
   unfolding sway
@@ -116,6 +117,7 @@ module _ (x y : NodeInfo) (same : node_seen x ≡ node_seen y) where
     ok ← unless Unknown (all_among ms (codes "kind" ∷ codes "drafts" ∷ []))
     Ok (Script rows)
   crew_as_same guests done ms crew_kinds.Wild = refl
+  crew_as_same guests done ms crew_kinds.Edge = refl
   crew_as_same guests done ms crew_kinds.Guest = refl
 
   crew_same : (guests : ℕ) (done : List Crew) (d : Data) → crew guests done x d ≡ crew guests done y d

@@ -76,6 +76,8 @@ module _ (g : Global) where
     (λ fits. (let is = fits.1 0 (negsuc 1 ∷ []) refl in omega (arith, ints, is.0))),
     (λ fits. (let is = fits.1 0 (pos 0 ∷ pos 0 ∷ []) refl in is.2)),
     (λ fits. cc),
+    (omega arith, omega arith, omega arith),
+    (λ fits. omega (arith, fits.2)),
   )
 
   pub crews : CrewsFit g
@@ -87,6 +89,8 @@ module _ (g : Global) where
     (λ fits. none-some _ (sym fits.0)),
     (λ fits. none-some _ (sym fits.0)),
     (λ fits. none-some _ (sym fits)),
+    (refl, omega arith, omega arith, omega arith),
+    (λ fits. omega (arith, fits.3)),
   )
 
   same_guest : (i j : ℕ) → ◌≡◌ {A = Crew} (Guest i) (Guest j) → i ≡ j

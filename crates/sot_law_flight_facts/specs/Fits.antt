@@ -4,7 +4,8 @@ use Rattle.std.specs.Global.{Global}
 use Rattle.sot_lang.specs.Tables.{Tables}
 use Rattle.sot_lang.specs.Line.{line, fast, slow, pos_plant}
 use Rattle.sot_world.specs.Examples.{relay}
-use Rattle.sot_flight.specs.Plans.{StatedInput, Plan, Crew, Still, Listed, Coded, Script, Wild}
+use Rattle.sot_flight.specs.declared.spread.Spread.TheVariants.{Anywhere, Ends}
+use Rattle.sot_flight.specs.Plans.{StatedInput, Plan, Crew, Still, Listed, Drawn, Coded, Script, Wild}
 use Rattle.sot_flight.specs.Plans.{Guest}
 use Rattle.sot_flight.specs.Fits.{FitsInput, FitsSway, FitsCrew, FitsFlight}
 use Rattle.sot_flight.specs.Counts.{event_count, number_count}
@@ -49,6 +50,8 @@ SwaysFit g =
     × (FitsSway (pos_plant g) (Listed ((negsuc 1 ∷ []) ∷ [])) → ⊥)
     × (FitsSway (pos_plant g) (Listed ((pos 0 ∷ pos 0 ∷ []) ∷ [])) → ⊥)
     × (FitsSway (pos_plant g) Still → ⊥)
+    × FitsSway (pos_plant g) (Drawn (Ends 1) 0 0)
+    × (FitsSway (pos_plant g) (Drawn (Ends 0) 0 0) → ⊥)
 
 -- `fast` has no code and writes one number, `slow` has code
 abbrev pub CrewsFit : Global → Type 0
@@ -58,8 +61,10 @@ CrewsFit g =
     × (FitsCrew (fast g) (Script ((None ∷ []) ∷ [] ∷ [])) → ⊥)
     × (FitsCrew (fast g) Coded → ⊥)
     × (FitsCrew (slow g) (Script ((None ∷ []) ∷ [])) → ⊥)
-    × (FitsCrew (slow g) (Wild 1 1) → ⊥)
+    × (FitsCrew (slow g) (Wild Anywhere 1 1) → ⊥)
     × (FitsCrew (slow g) (Guest 0) → ⊥)
+    × FitsCrew (fast g) (Wild (Ends 1) 0 0)
+    × (FitsCrew (fast g) (Wild (Ends 0) 0 0) → ⊥)
 
 -- two nodes of period 4 that guests may draft for, flown for an instant
 abbrev pub hosts : Global → Tables

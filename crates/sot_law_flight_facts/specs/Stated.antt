@@ -6,6 +6,7 @@ use Rattle.std.specs.Global.{Global}
 use Rattle.sot_lang.specs.declared.tables.PlantInfo.{PlantInfo}
 use Rattle.sot_lang.specs.declared.tables.NodeInfo.{NodeInfo}
 use Rattle.sot_lang.specs.Line.{line, fast, slow, pos_plant, vec}
+use Rattle.sot_flight.specs.declared.spread.Spread.TheVariants.{Anywhere, Ends}
 use Rattle.sot_flight.specs.Plans.{Still, Low, High, Listed, Drawn, Coded, Script, Wild, Guest}
 use Rattle.sot_flight.specs.Stated.{noise_of, stated_noise, draft_of}
 use Rattle.sot_board.specs.Examples.{relay_flight}
@@ -47,8 +48,17 @@ RowsStay g =
 -- and 83d2f293, each modulo 3
 abbrev pub WordsOfSways : Global → Type 0
 WordsOfSways g =
-    (noise_of (windy g) (Drawn 42 54) 0 ≡ negsuc 0 ∷ pos 0 ∷ [])
-    × (noise_of (windy g) (Drawn 42 54) 1 ≡ pos 1 ∷ pos 1 ∷ [])
+    (noise_of (windy g) (Drawn Anywhere 42 54) 0 ≡ negsuc 0 ∷ pos 0 ∷ [])
+    × (noise_of (windy g) (Drawn Anywhere 42 54) 1 ≡ pos 1 ∷ pos 1 ∷ [])
+
+-- of these words the third alone is even, so it stands for the low end; for two ticks on end each
+abbrev pub EdgesOfSways : Global → Type 0
+EdgesOfSways g =
+    (noise_of (windy g) (Drawn (Ends 2) 42 54) 0 ≡ pos 1 ∷ pos 1 ∷ [])
+    × (noise_of (windy g) (Drawn (Ends 2) 42 54) 1 ≡ pos 1 ∷ pos 1 ∷ [])
+    × (noise_of (windy g) (Drawn (Ends 2) 42 54) 2 ≡ negsuc 0 ∷ pos 1 ∷ [])
+    × (noise_of (windy g) (Drawn (Ends 2) 42 54) 3 ≡ negsuc 0 ∷ pos 1 ∷ [])
+    × (noise_of (windy g) (Drawn (Ends 1) 42 54) 1 ≡ negsuc 0 ∷ pos 1 ∷ [])
 
 -- drafts come one a firing, and the last one stays; nothing is stated for code and guests
 abbrev pub two_drafts : List (List (Option ℤ))
@@ -65,5 +75,13 @@ DraftsStay g =
 -- one word a number, modulo 5
 abbrev pub WordsOfCrews : Global → Type 0
 WordsOfCrews g =
-    (draft_of (line g) (twice g) (Wild 42 54) 0 ≡ Some (Some (pos 1) ∷ Some (pos 0) ∷ []))
-    × (draft_of (line g) (twice g) (Wild 42 54) 1 ≡ Some (Some (pos 2) ∷ Some (negsuc 1) ∷ []))
+    (draft_of (line g) (twice g) (Wild Anywhere 42 54) 0 ≡ Some (Some (pos 1) ∷ Some (pos 0) ∷ []))
+    × (draft_of (line g) (twice g) (Wild Anywhere 42 54) 1
+    ≡ Some (Some (pos 2) ∷ Some (negsuc 1) ∷ []))
+
+-- the ends of -2..2, for three firings on end each
+abbrev pub EdgesOfCrews : Global → Type 0
+EdgesOfCrews g =
+    (draft_of (line g) (twice g) (Wild (Ends 3) 42 54) 2 ≡ Some (Some (pos 2) ∷ Some (pos 2) ∷ []))
+    × (draft_of (line g) (twice g) (Wild (Ends 3) 42 54) 3
+    ≡ Some (Some (negsuc 1) ∷ Some (pos 2) ∷ []))

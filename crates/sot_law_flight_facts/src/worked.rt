@@ -8,6 +8,7 @@ ghost use Rattle.sot_law_flight_facts.specs.Views.{FirstViewIsThere, InputEndsVi
 ghost use Rattle.sot_law_flight_facts.specs.Views.{LaterViewIsCurrent, OtherTopicsLeaveView};
 ghost use Rattle.sot_law_flight_facts.specs.Views.{TimeEndsView, ChangedBackEndsView};
 ghost use Rattle.sot_law_flight_facts.specs.Stated.{EndsOfBounds, RowsStay, WordsOfSways};
+ghost use Rattle.sot_law_flight_facts.specs.Stated.{EdgesOfSways, EdgesOfCrews};
 ghost use Rattle.sot_law_flight_facts.specs.Stated.{DraftsStay, WordsOfCrews};
 ghost use Rattle.sot_law_flight_facts.specs.Fits.{HorizonLimit, InputsFit, SwaysFit, CrewsFit};
 ghost use Rattle.sot_law_flight_facts.specs.Fits.{GuestsFit, CountsOfFlights};
@@ -31,8 +32,10 @@ pub fn stated_values_are_as_stated()
     ensures ends { (g : Global) → EndsOfBounds g }
     ensures rows { (g : Global) → RowsStay g }
     ensures words { (g : Global) → WordsOfSways g }
+    ensures edges { (g : Global) → EdgesOfSways g }
     ensures drafts { (g : Global) → DraftsStay g }
     ensures drawn { (g : Global) → WordsOfCrews g }
+    ensures drawn_edges { (g : Global) → EdgesOfCrews g }
 {}
 
 /// Which flights fit, and what they count.

@@ -180,9 +180,9 @@ module _ (b : Standing) (is : IsStanding b) where
   crew_fires n node (plans.Script drafts) at at_c fits body left =
       external_fires n node (plans.Script drafts) _ at at_c body (draft_size b.accepted.program node (plans.Script drafts) (fired_of b.position n) _ fits refl)
       refl (λ guest e. cc) left
-  crew_fires n node (plans.Wild seed stream) at at_c fits body left =
-      external_fires n node (plans.Wild seed stream) _ at at_c body
-      (draft_size b.accepted.program node (plans.Wild seed stream) (fired_of b.position n) _ fits refl) refl (λ guest e. cc) left
+  crew_fires n node (plans.Wild spread seed stream) at at_c fits body left =
+      external_fires n node (plans.Wild spread seed stream) _ at at_c body
+      (draft_size b.accepted.program node (plans.Wild spread seed stream) (fired_of b.position n) _ fits refl) refl (λ guest e. cc) left
   crew_fires n node (plans.Guest i) at at_c fits body left =
       let few = (is.kept.rules.nodes n node at).writes in
       external_fires n node (plans.Guest i) (replicate (length node.writes.items) None) at at_c body (length-replicate (length node.writes.items) None) tt

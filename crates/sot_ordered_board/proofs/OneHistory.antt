@@ -119,7 +119,7 @@ module _ (p : Tables) (f : Plan) (P : Position) where
       → ((i : ℕ) → crew ≡ plans.Guest i → ⊥) → IsStatedDraft (draft_of p node crew k) draft → IsStatedDraft (draft_of p node crew k) other → draft ≡ other
   draft_same node plans.Coded k draft other none fits not a b = absurd (let e = sym none ∙ fits.1.1 in cc)
   draft_same node (plans.Script drafts) k draft other none fits not a b = a ∙ sym b
-  draft_same node (plans.Wild seed stream) k draft other none fits not a b = a ∙ sym b
+  draft_same node (plans.Wild spread seed stream) k draft other none fits not a b = a ∙ sym b
   draft_same node (plans.Guest i) k draft other none fits not a b = absurd (not i refl)
 
   guest_same : (j guests : ℕ) → FitsFlight p guests f → HasNoGuests f → (n : ℕ) (draft other : List (Option ℤ)) (D : Configuration)

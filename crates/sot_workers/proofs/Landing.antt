@@ -121,5 +121,5 @@ lists_are count f guests lists history back there = record { nodes = back.nodes;
     by_crew n list at (Some Coded) e = back.own n list at (λ i is. let d : Coded ≡ Guest i = same_Some Coded (Guest i) (sym e ∙ is) in cc)
     by_crew n list at (Some (Script drafts)) e =
         back.own n list at (λ i is. let d : Script drafts ≡ Guest i = same_Some (Script drafts) (Guest i) (sym e ∙ is) in cc)
-    by_crew n list at (Some (Wild seed stream)) e =
-        back.own n list at (λ i is. let d : Wild seed stream ≡ Guest i = same_Some (Wild seed stream) (Guest i) (sym e ∙ is) in cc)
+    by_crew n list at (Some (Wild spread seed stream)) e =
+        back.own n list at (λ i is. let d : Wild spread seed stream ≡ Guest i = same_Some (Wild spread seed stream) (Guest i) (sym e ∙ is) in cc)

@@ -49,7 +49,7 @@ is_small p f = nat_le (length p.nodes) 64 && nat_le (firing_count f.horizon p.no
 abbrev pub is_guest : Crew → Bool
 is_guest Coded = false
 is_guest (Script drafts) = false
-is_guest (Wild seed stream) = false
+is_guest (Wild spread seed stream) = false
 is_guest (Guest index) = true
 
 -- a guest flies node n

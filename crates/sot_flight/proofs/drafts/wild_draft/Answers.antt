@@ -9,7 +9,7 @@ use Rattle.sot_lists.proofs.Places.{at_map}
 use Rattle.sot_lang.specs.Ranges.{write_ranges, range_of}
 use Rattle.sot_code.specs.Recorded.{in_slots}
 use Rattle.sot_code.proofs.Filling.{read_word, put_more}
-use Rattle.sot_flight.specs.Draws.{drawn_from}
+use Rattle.sot_flight.specs.Draws.{drawn_from, turn}
 use Rattle.sot_random_words.proofs.Words.{words_on}
 use Rattle.sot_flight.proofs.Drawn.{drawn_read, drawn_at, length-drawn_from}
 use Rattle.sot_flight.proofs.Bounds.{write_at}
@@ -20,7 +20,7 @@ pub overflow_mul-given : goal.overflow_mul-given
 overflow_mul-given c =
     let info = c.args.info.now in
     let len : c.len.result ≤ 8 = omega (arith, c.requires.few, c.len.ensures, info.writes.ok.0) in
-    omega (arith, mul-le-mul_left c.from.result len, c.from.ensures, c.ranges.firing.fits)
+    omega (arith, mul-le-mul_left c.from.result len, c.from.ensures, c.turn_of.ensures.bound, c.ranges.firing.fits)
 
 pub index-scalar-requires : goal.index-scalar-requires
 index-scalar-requires c =
@@ -69,8 +69,8 @@ loop-i-preserved c =
     let there = c.p.invariant.typed.inside node info c.index.result.now node_at (i, slot_at) in
     let scalar_at = subst (λ t. At t.scalars c.index.result.now scalar) c.p.view_is
     (slice_get_read c.p.inside.scalars.items _ c.index.result.now scalar refl there c.index-scalar.ensures) in
-    let value = drawn_read scalar.lo scalar.hi c.draw.result _ _ low high c.draw.ensures.value (ap (λ g. output_xsh_rr g.state) k.words) in
-    let number_at = drawn_at c.args.seed c.args.stream given _ i _ (write_at c.args.p.now info i c.index.result.now scalar slot_at scalar_at)
+    let value = drawn_read c.args.spread scalar.lo scalar.hi c.draw.result _ _ low high c.draw.ensures.value (ap (λ g. output_xsh_rr g.state) k.words) in
+    let number_at = drawn_at c.args.spread c.args.seed c.args.stream given _ i _ (write_at c.args.p.now info i c.index.result.now scalar slot_at scalar_at)
     ∙ ap Some (sym value) in
     let at = at_map Some _ i _ number_at in
     record {
@@ -85,11 +85,13 @@ returns c =
     let info = c.args.info.now in
     let i = c.loop-i.i in
     let given = c.from.result * c.len.result in
-    let list = drawn_from c.args.seed c.args.stream given (write_ranges c.args.p.now info) in
-    let size = length-map list Some ∙ length-drawn_from c.args.seed c.args.stream given (write_ranges c.args.p.now info)
+    let list = drawn_from c.args.spread c.args.seed c.args.stream given (write_ranges c.args.p.now info) in
+    let size = length-map list Some ∙ length-drawn_from c.args.spread c.args.seed c.args.stream given (write_ranges c.args.p.now info)
     ∙ length-map info.writes.items (range_of c.args.p.now.scalars) in
     let all : c.loop-i.i ≡ length info.writes.items = omega (arith, c.len-i-end.ensures, c.loop-i.auto.i-end, c.loop-i-test.false, info.writes.ok.0) in
     let len : c.len.result ≡ length info.writes.items = omega (arith, c.len.ensures, info.writes.ok.0) in
-    let first : given ≡ c.args.firing * length info.writes.items = ap (λ n. n * c.len.result) c.from.ensures ∙ ap (λ n. c.args.firing * n) len in
+    let turns = turn c.args.spread c.args.firing in
+    let turned : c.from.result ≡ turns = c.from.ensures ∙ c.turn_of.ensures.value in
+    let first : given ≡ turns * length info.writes.items = ap (λ n. n * c.len.result) turned ∙ ap (λ n. turns * n) len in
     c.loop-i.invariant.draft ∙ put_all (map Some list) i (all ∙ sym size)
-    ∙ ap (λ n. in_slots (map Some (drawn_from c.args.seed c.args.stream n (write_ranges c.args.p.now info)))) first
+    ∙ ap (λ n. in_slots (map Some (drawn_from c.args.spread c.args.seed c.args.stream n (write_ranges c.args.p.now info)))) first

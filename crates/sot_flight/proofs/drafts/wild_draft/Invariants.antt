@@ -8,5 +8,5 @@ use Rattle.sot_flight.proofs.drafts.wild_draft.Given as goal
 abbrev pub invariant-loop-i : goal.invariant-loop-i
 invariant-loop-i l = record {
   words : l.words ≡ words_from l.seed l.stream (l.given + l.i);
-  draft : l.draft ≡ take l.i (map Some (drawn_from l.seed l.stream l.given (write_ranges l.p l.info))) ++ replicate (8 - l.i) None;
+  draft : l.draft ≡ take l.i (map Some (drawn_from l.spread l.seed l.stream l.given (write_ranges l.p l.info))) ++ replicate (8 - l.i) None;
 }

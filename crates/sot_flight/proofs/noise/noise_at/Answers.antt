@@ -4,6 +4,7 @@ use Rattle.rand_pcg.specs.Pcg.{output_xsh_rr}
 use Rattle.sot_lists.specs.Places.{At}
 use Rattle.sot_code.proofs.Filling.{read_word}
 use Rattle.sot_random_words.specs.Words.{word}
+use Rattle.sot_flight.specs.Draws.{turn}
 use Rattle.sot_flight.specs.Stated.{noise_of}
 use Rattle.sot_flight.specs.Fits.{FitsSway}
 use Rattle.sot_flight.specs.FlightView.{sway_of}
@@ -63,9 +64,11 @@ returns-in-Drawn c =
     let fits : FitsSigned w64 c.draw.result = search rules in
     let at = slice_get_read plant.noise.items _ c.args.i info refl c.requires.there c.index-info.ensures in
     let len : c.len.result ≡ length plant.noise.items = omega (arith, c.len.ensures, plant.noise.ok.0) in
-    let given : c.from.result * c.len.result ≡ c.args.tick * length plant.noise.items = ap (λ n. n * c.len.result) c.from.ensures
-    ∙ ap (λ n. c.args.tick * n) len in
-    let same = ap (λ g. output_xsh_rr g.state) c.words_from.ensures ∙ ap (λ n. word c.in-Drawn.seed c.in-Drawn.stream (n + c.args.i)) given in
-    let value = drawn_read info.lo info.hi c.draw.result _ _ low high c.draw.ensures.value same in
-    let here = noise_drawn_at plant c.args.i info at c.in-Drawn.seed c.in-Drawn.stream (c.args.tick * length plant.noise.items) ∙ ap Some (sym value) in
+    let spread = c.in-Drawn.spread in
+    let turns = turn spread c.args.tick in
+    let turned : c.from.result ≡ turns = c.from.ensures ∙ c.turn_of-turn.ensures.value in
+    let given : c.from.result * c.len.result ≡ turns * length plant.noise.items = ap (λ n. n * c.len.result) turned ∙ ap (λ n. turns * n) len in
+    let same = ap (λ g. output_xsh_rr g.state) c.words_from-words.ensures ∙ ap (λ n. word c.in-Drawn.seed c.in-Drawn.stream (n + c.args.i)) given in
+    let value = drawn_read spread info.lo info.hi c.draw.result _ _ low high c.draw.ensures.value same in
+    let here = noise_drawn_at plant c.args.i info at spread c.in-Drawn.seed c.in-Drawn.stream (turns * length plant.noise.items) ∙ ap Some (sym value) in
     rw (read_word c.draw.result fits) (subst (λ s. At (noise_of plant (sway_of s) c.args.tick) c.args.i c.draw.result) (sym c.in-Drawn.is) here)

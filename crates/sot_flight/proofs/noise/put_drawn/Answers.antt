@@ -30,21 +30,21 @@ loop-i-preserved c =
     let fits : FitsSigned w64 c.draw.result = search rules in
     let below : c.loop-i.i < length plant.noise.items = omega (arith, c.len-i-end.ensures, c.loop-i-test.true, plant.noise.ok.0) in
     let here = slice_get_read plant.noise.items _ c.loop-i.i info refl below c.index-info.ensures in
-    let value = drawn_read info.lo info.hi c.draw.result _ _ low high c.draw.ensures.value (ap (λ g. output_xsh_rr g.state) k.words) in
-    let at = noise_drawn_at plant c.loop-i.i info here c.args.seed c.args.stream c.args.given ∙ ap Some (sym value) in
+    let value = drawn_read c.args.spread info.lo info.hi c.draw.result _ _ low high c.draw.ensures.value (ap (λ g. output_xsh_rr g.state) k.words) in
+    let at = noise_drawn_at plant c.loop-i.i info here c.args.spread c.args.seed c.args.stream c.args.given ∙ ap Some (sym value) in
     let inside : c.args.first + c.loop-i.i < length c.loop-i.numbers = omega (arith, k.size, c.requires.room, below) in
     record {
       words = words_on c.args.seed c.args.stream c.args.given c.loop-i.i c.loop-i.words c.draw.new.words k.words c.draw.ensures.next;
       size = search (rules, k.size);
       front =
-          rw (read_word c.draw.result fits) (taken_behind c.loop-i.numbers (drawn_from c.args.seed c.args.stream c.args.given (bounds plant))
+          rw (read_word c.draw.result fits) (taken_behind c.loop-i.numbers (drawn_from c.args.spread c.args.seed c.args.stream c.args.given (bounds plant))
           (take c.args.first c.args.numbers.now) c.args.first c.loop-i.i c.draw.result inside (slice_get_within _ _ _ at) k.front at);
     }
 
 pub returns-clause-front : goal.returns-clause-front
 returns-clause-front c =
     let plant = c.args.plant.now in
-    let size = length-noise_drawn plant c.args.seed c.args.stream c.args.given in
+    let size = length-noise_drawn plant c.args.spread c.args.seed c.args.stream c.args.given in
     let past : length plant.noise.items ≤ c.loop-i.i = omega (arith, c.len-i-end.ensures, c.loop-i-test.false, plant.noise.ok.0) in
     let all : c.loop-i.i ≡ length plant.noise.items = omega (arith, past, c.len-i-end.ensures, c.loop-i.auto.i-end, plant.noise.ok.0) in
     ap (λ n. take (c.args.first + n) c.loop-i.numbers) (sym all) ∙ c.loop-i.invariant.front

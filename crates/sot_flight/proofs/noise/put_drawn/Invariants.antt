@@ -8,5 +8,5 @@ abbrev pub invariant-loop-i : goal.invariant-loop-i
 invariant-loop-i l = record {
   words : l.words ≡ words_from l.seed l.stream (l.given + l.i);
   size : length l.numbers ≡ length l.initial.numbers;
-  front : take (l.first + l.i) l.numbers ≡ take l.first l.initial.numbers ++ take l.i (drawn_from l.seed l.stream l.given (bounds l.plant));
+  front : take (l.first + l.i) l.numbers ≡ take l.first l.initial.numbers ++ take l.i (drawn_from l.spread l.seed l.stream l.given (bounds l.plant));
 }

@@ -13,9 +13,17 @@ pub returns-clause-words : goal.returns-clause-words
 unfolding state_after
 returns-clause-words c g = (refl, refl)
 
+pub returns-clause-edges : goal.returns-clause-edges
+unfolding state_after
+returns-clause-edges c g = (refl, refl, refl, refl, refl)
+
 pub returns-clause-drafts : goal.returns-clause-drafts
 returns-clause-drafts c g = (refl, refl, refl, refl, refl)
 
 pub returns-clause-drawn : goal.returns-clause-drawn
 unfolding state_after
 returns-clause-drawn c g = (refl, refl)
+
+pub returns-clause-drawn_edges : goal.returns-clause-drawn_edges
+unfolding state_after
+returns-clause-drawn_edges c g = (refl, refl)
