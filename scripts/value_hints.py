@@ -9,8 +9,8 @@ from missiontext import NotRead, decimal, scalar_name
 from wording import decimals, listing, shown
 
 KEYS = {'certificate': ('format', 'modules'), 'flight': ('format', 'horizon', 'start', 'inputs', 'sway', 'crew')}
-OF_KIND = {'low': ('kind',), 'high': ('kind',), 'list': ('kind', 'values'), 'seed': ('kind', 'seed', 'stream'), 'script': ('kind', 'drafts'),
-           'wild': ('kind', 'seed', 'stream'), 'guest': ('kind', 'index')}
+OF_KIND = {'low': ('kind',), 'high': ('kind',), 'list': ('kind', 'values'), 'seed': ('kind', 'seed', 'stream'),
+           'edge': ('kind', 'hold', 'seed', 'stream'), 'script': ('kind', 'drafts'), 'wild': ('kind', 'seed', 'stream'), 'guest': ('kind', 'index')}
 
 
 def named_value(asked, family, path, kind):
@@ -174,7 +174,7 @@ def flight_shape(asked, path, value):
         flat = isinstance(values, list) and all(not isinstance(item, (list, dict)) for item in values)
         return f'`values` is a list of lists, one a tick, each with a number for each disturbance ({", ".join(tables.plants[path[1]].noise)})' + (f': write `{written([values])}`' if flat and values else '')
     if path[-1] == 'kind':
-        wanted = 'low, high, list or seed' if path[0] == 'sway' else 'script, wild or guest'
+        wanted = 'low, high, list, seed or edge' if path[0] == 'sway' else 'script, wild, edge or guest'
         return f'the kind of a {path[0]} is {wanted}'
     return ''
 
