@@ -51,14 +51,15 @@ WordsOfSways g =
     (noise_of (windy g) (Drawn Anywhere 42 54) 0 ≡ negsuc 0 ∷ pos 0 ∷ [])
     × (noise_of (windy g) (Drawn Anywhere 42 54) 1 ≡ pos 1 ∷ pos 1 ∷ [])
 
--- of these words the third alone is even, so it stands for the low end; for two ticks on end each
+-- of these words the third alone is even, so it stands for the low end of -1..1, and the others for
+-- the high end of -1..1 or 0..2; for two ticks on end each
 abbrev pub EdgesOfSways : Global → Type 0
 EdgesOfSways g =
-    (noise_of (windy g) (Drawn (Ends 2) 42 54) 0 ≡ pos 1 ∷ pos 1 ∷ [])
-    × (noise_of (windy g) (Drawn (Ends 2) 42 54) 1 ≡ pos 1 ∷ pos 1 ∷ [])
-    × (noise_of (windy g) (Drawn (Ends 2) 42 54) 2 ≡ negsuc 0 ∷ pos 1 ∷ [])
-    × (noise_of (windy g) (Drawn (Ends 2) 42 54) 3 ≡ negsuc 0 ∷ pos 1 ∷ [])
-    × (noise_of (windy g) (Drawn (Ends 1) 42 54) 1 ≡ negsuc 0 ∷ pos 1 ∷ [])
+    (noise_of (windy g) (Drawn (Ends 2) 42 54) 0 ≡ pos 1 ∷ pos 2 ∷ [])
+    × (noise_of (windy g) (Drawn (Ends 2) 42 54) 1 ≡ pos 1 ∷ pos 2 ∷ [])
+    × (noise_of (windy g) (Drawn (Ends 2) 42 54) 2 ≡ negsuc 0 ∷ pos 2 ∷ [])
+    × (noise_of (windy g) (Drawn (Ends 2) 42 54) 3 ≡ negsuc 0 ∷ pos 2 ∷ [])
+    × (noise_of (windy g) (Drawn (Ends 1) 42 54) 1 ≡ negsuc 0 ∷ pos 2 ∷ [])
 
 -- drafts come one a firing, and the last one stays; nothing is stated for code and guests
 abbrev pub two_drafts : List (List (Option ℤ))
