@@ -12,21 +12,26 @@ from wording import decimals, listing
 
 COMPARISONS = {'<': lambda a, b: a < b, '<=': lambda a, b: a <= b, '>': lambda a, b: a > b, '>=': lambda a, b: a >= b,
                '==': lambda a, b: a == b, '!=': lambda a, b: a != b}
-PARTS = {'not': 1, 'and': 2, 'or': 2, 'once': 1, 'since': 2, 'within': 2}
+# how many parts a word joins at least and at most
+PARTS = {'not': (1, 1), 'and': (2, 64), 'or': (2, 64), 'implies': (2, 2), 'once': (1, 1), 'always': (1, 1), 'since': (2, 2), 'within': (2, 2)}
 ELSEWHERE = {
-    'always': 'a formula is asked at each moment, so write what is to hold alone, without `always`',
     'globally': 'a formula is asked at each moment, so write what is to hold alone, without `globally`',
-    'historically': 'for "at all moments so far" write `not(once(not(f)))`',
+    'historically': 'for "at all moments so far" write `always(f)`',
     'eventually': 'a formula looks back: write `once(f)` for what has held at some moment before, or `within(n, f)`',
-    'implies': 'for "f implies g" write `or(not(f), g)`',
     'next': 'a formula looks back and not ahead: write `within(1, f)`',
     'until': 'a formula looks back: write `since(f, g)`',
     'abs': 'there is no arithmetic in a formula: write `and(x >= -1, x <= 1)` for `abs(x) <= 1`',
 }
 TOKEN = re.compile(r'[ \t\r\n]+|#[^\n]*|([A-Za-z_][A-Za-z0-9_]*|[0-9]+(?:\.[0-9]+)?|:=|\.\.|[<>=!]=|.)', re.S)
 
-# kind: true, false, not, and, or, once, since, within or compare; parts: formulas; ref, sign, number, scale of a comparison; count of a within
+# kind: true, false, a word of PARTS or compare; parts: formulas; ref, sign, number, scale of a comparison; count of a within
 Formula = collections.namedtuple('Formula', 'kind at end parts ref sign number scale count')
+
+
+def taken(word):
+    """How many parts a word takes."""
+    least, most = PARTS[word]
+    return f'{least} part{"s" * (least > 1)}' if least == most else f'{least} to {most} parts'
 
 
 class BadFormula(Exception):
@@ -82,7 +87,7 @@ class Reader:
         if re.match(r'[A-Za-z_]', word):
             return self.comparison(at)
         if word == '(':
-            self.fail('parentheses stand behind `not`, `and`, `or`, `once`, `since` and `within` alone')
+            self.fail(f'parentheses stand behind {listing(f"`{word}`" for word in PARTS)} alone')
         self.fail('a formula is wanted here' + (f', and not `{word}`: a name stands on the left of a comparison, a number on the right' if word else ''))
 
     def follows(self, sign):
@@ -99,9 +104,10 @@ class Reader:
             self.comma(word, 1)
             parts = [self.formula()]
         else:
-            for place in range(PARTS[word]):
-                if place:
-                    self.comma(word, place)
+            least, most = PARTS[word]
+            while len(parts) < least or (len(parts) < most and self.now == ','):
+                if parts:
+                    self.comma(word, len(parts))
                 parts.append(self.formula())
         self.close(word)
         return Formula(word, at, self.at, tuple(parts), None, None, None, None, count)
@@ -111,7 +117,7 @@ class Reader:
             self.next()
             return
         if self.now == ')':
-            self.fail(f'`{word}` takes {PARTS[word]} parts, and here are {place}')
+            self.fail(f'`{word}` takes {taken(word)}, and here are {place}')
         self.infix()
         self.fail(f'a comma is missing between the parts of `{word}`')
 
@@ -124,7 +130,7 @@ class Reader:
             self.next()
             return
         if self.now == ',':
-            self.fail(f'`{word}` takes {PARTS[word]} part{"s" * (PARTS[word] > 1)}' + (f': write `{word}(f, {word}(g, h))`' if word in ('and', 'or') else ''))
+            self.fail(f'`{word}` takes {taken(word)}' + (f': write `{word}({word}(..), ..)`' if word in ('and', 'or') else ''))
         self.infix()
         self.fail(f'`)` is missing behind the last part of `{word}`')
 
@@ -150,7 +156,7 @@ class Reader:
                 self.fail('behind the point stands the name of a field or a state variable')
             name += '.' + self.next()
         elif self.now == '(':
-            raise BadFormula(at, f'there is no `{name}(..)`: a formula has not, and, or, once, since, within and mode')
+            raise BadFormula(at, f'there is no `{name}(..)`: a formula has {", ".join(PARTS)} and mode')
         return self.compared(at, name)
 
     def compared(self, at, name):
@@ -260,9 +266,13 @@ def holds_at(formula, parts, before, i, now):
     if kind == 'not':
         return not parts[0][i]
     if kind == 'and':
-        return parts[0][i] and parts[1][i]
+        return all(part[i] for part in parts)
     if kind == 'or':
-        return parts[0][i] or parts[1][i]
+        return any(part[i] for part in parts)
+    if kind == 'implies':
+        return parts[1][i] or not parts[0][i]
+    if kind == 'always':
+        return parts[0][i] and (i == 0 or before[i - 1])
     if kind == 'once':
         return parts[0][i] or (i > 0 and before[i - 1])
     if kind == 'since':
@@ -290,7 +300,12 @@ class Why:
             return self.lines(formula.parts[0], i, not wanted)
         if formula.kind in ('and', 'or'):
             return [line for part in formula.parts if held(part, self.moments)[i] != wanted for line in self.lines(part, i, wanted)]
-        if formula.kind in ('once', 'within', 'since'):
+        if formula.kind == 'implies':
+            premise, conclusion = formula.parts
+            if wanted:
+                return self.lines(premise, i, False) + self.lines(conclusion, i)
+            return self.lines(conclusion, i, False) if held(conclusion, self.moments)[i] else self.lines(premise, i)
+        if formula.kind in ('once', 'always', 'within', 'since'):
             return self.past(formula, i, wanted)
         return [f'`{formula.kind}` {"never holds" if formula.kind == "false" else "always holds"}']
 
@@ -301,6 +316,9 @@ class Why:
         last = f'it held last at moment {times[-1]}' if times else 'it never held up to there'
         if not wanted:
             return [f'`{self.said(formula)}` holds at moment {i}']
+        if formula.kind == 'always':
+            first = next(at for at in range(i + 1) if at not in times)
+            return self.lines(part, first)
         if formula.kind == 'since' and times:
             first = next(at for at in range(times[-1] + 1, i + 1) if not held(formula.parts[0], self.moments)[at])
             return [f'`{self.said(part)}` held last at moment {times[-1]}, and behind it'] + self.lines(formula.parts[0], first)

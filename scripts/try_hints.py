@@ -146,8 +146,9 @@ FORMULAS = [
     ('brake == 1', ['the program has no `brake`', '^']),
     ('robot.w == 1.00', ['the program has no `robot.w`', '^']),
     ('robot > 1', ['`robot` is a plant: name a state variable of it, `robot.gap`, `robot.v`']),
-    ('always(robot.v <= 1.50)', ['a formula is asked at each moment', '^', 'column 1']),
-    ('and(robot.v <= 1.50, robot.gap >= 0.000, acc <= 1.0)', ['`and` takes 2 parts: write `and(f, and(g, h))`', 'column 40']),
+    ('globally(robot.v <= 1.50)', ['a formula is asked at each moment', '^', 'column 1']),
+    ('implies(robot.v <= 1.50, robot.gap >= 0.000, acc <= 1.0)', ['`implies` takes 2 parts', 'column 44']),
+    ('and(robot.v <= 1.50)', ['`and` takes 2 to 64 parts, and here are 1', 'column 20']),
     ('and(robot.v <= 1.50 robot.gap >= 0.000)', ['a comma is missing between the parts of `and`', 'column 21']),
     ('robot.v <= 1.50 and acc <= 1.0', ['`and` stands in front of its two parts']),
     ('acc', ['a comparison is missing behind `acc`']),
@@ -173,6 +174,8 @@ def failing_moments_are_shown():
         (drone, 'or(drone.h == 0, drone.b >= 20)', ['`drone.h == 0` fails at moment 22: `drone.h` is 6 there', '`drone.b >= 20` fails at moment 22: `drone.b` is 18 there', 'at moment 22: drone.h 6, drone.b 18']),
         (line1, 'within(3, mode(nav) == 1)', ['`mode(nav) == 1` does not hold within the last 3 ticks up to moment 15: it held last at moment 11']),
         (drone, 'not(once(drone.b < 20))', ['`once(drone.b < 20)` holds at moment']),
+        (drone, 'implies(drone.h > 0, drone.b >= 20)', ['`drone.h > 0` holds at moment 22: `drone.h` is 6 there', '`drone.b >= 20` fails at moment 22: `drone.b` is 18 there']),
+        (drone, 'always(or(drone.h == 0, drone.b >= 20, false))', ['`drone.h == 0` fails at moment 22', '`drone.b >= 20` fails at moment 22', '`false` never holds']),
         (drone, 'since(mode(guard) == 0, drone.b >= 26)', ['`drone.b >= 26` held last at moment 18', '`mode(guard) == 0` fails at moment 19: `mode(guard)` is 1 there']),
     ]
     for text, formula, said in rows:

@@ -11,7 +11,7 @@ use Rattle.sot_law_equal_tables.proofs.Seen.{scalar_back, module_back, plant_bac
 use Rattle.sot_formula.specs.declared.quantity.Quantity.{Quantity}
 use Rattle.sot_formula.specs.declared.fail.MonitorFail.{MonitorFail}
 use Rattle.sot_formula.specs.declared.fail.MonitorFail.TheVariants as fails
-use Rattle.sot_formula.specs.Phrases.{Phrase, a_truth, a_single, a_double, a_within, a_comparison, Reference, a_mode, a_name, a_field, Literal}
+use Rattle.sot_formula.specs.Phrases.{Phrase, a_truth, a_single, a_double, a_row, a_within, a_comparison, Reference, a_mode, a_name, a_field, Literal}
 use Rattle.sot_formula.specs.declared.words.Single.TheVariants as singles
 use Rattle.sot_formula.specs.declared.words.Double.TheVariants as doubles
 use Rattle.sot_formula.specs.Formulas.{Formula}
@@ -26,8 +26,9 @@ compared_moved : (Of Then : Reference → Literal → Type 0) → ((r : Referenc
     → HasComparison Then f
 compared_moved Of Then by (a_truth value t) has = absurd has
 compared_moved Of Then by (a_single o w begin f end) has = compared_moved Of Then by f has
-compared_moved Of Then by (a_double o w begin f comma g end) (inl has) = inl (compared_moved Of Then by f has)
-compared_moved Of Then by (a_double o w begin f comma g end) (inr has) = inr (compared_moved Of Then by g has)
+compared_moved Of Then by (a_double o w begin row end) has = compared_moved Of Then by row has
+compared_moved Of Then by (a_row o f comma g) (inl has) = inl (compared_moved Of Then by f has)
+compared_moved Of Then by (a_row o f comma g) (inr has) = inr (compared_moved Of Then by g has)
 compared_moved Of Then by (a_within w begin n comma f end) has = compared_moved Of Then by f has
 compared_moved Of Then by (a_comparison r by_sign z) has = by r z has
 
@@ -93,9 +94,12 @@ means_moved : (t u : Tables) → tables_seen t ≡ tables_seen u → (f : Phrase
 means_moved t u same (a_truth value w) x is = is
 means_moved t u same (a_single singles.Not w begin f end) x (y, m, is) = (y, means_moved t u same f y m, is)
 means_moved t u same (a_single singles.Once w begin f end) x (y, m, is) = (y, means_moved t u same f y m, is)
-means_moved t u same (a_double doubles.And w begin f comma g end) x (y, z, m, k, is) = (y, z, means_moved t u same f y m, means_moved t u same g z k, is)
-means_moved t u same (a_double doubles.Or w begin f comma g end) x (y, z, m, k, is) = (y, z, means_moved t u same f y m, means_moved t u same g z k, is)
-means_moved t u same (a_double doubles.Since w begin f comma g end) x (y, z, m, k, is) = (y, z, means_moved t u same f y m, means_moved t u same g z k, is)
+means_moved t u same (a_single singles.Always w begin f end) x (y, m, is) = (y, means_moved t u same f y m, is)
+means_moved t u same (a_double o w begin row end) x m = means_moved t u same row x m
+means_moved t u same (a_row doubles.And f comma g) x (y, z, m, k, is) = (y, z, means_moved t u same f y m, means_moved t u same g z k, is)
+means_moved t u same (a_row doubles.Or f comma g) x (y, z, m, k, is) = (y, z, means_moved t u same f y m, means_moved t u same g z k, is)
+means_moved t u same (a_row doubles.Since f comma g) x (y, z, m, k, is) = (y, z, means_moved t u same f y m, means_moved t u same g z k, is)
+means_moved t u same (a_row doubles.Implies f comma g) x (y, z, m, k, is) = (y, z, means_moved t u same f y m, means_moved t u same g z k, is)
 means_moved t u same (a_within w begin n comma f end) x (y, m, is) = (y, means_moved t u same f y m, is)
 means_moved t u same (a_comparison r by z) x (q, c, names, sign, is) = (q, c, names_moved t u same r q (decimals z) names, sign, is)
 

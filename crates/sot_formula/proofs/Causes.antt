@@ -17,7 +17,7 @@ use Rattle.sot_formula.specs.declared.words.Double.{Double}
 use Rattle.sot_formula.specs.declared.words.Double.TheVariants as doubles
 use Rattle.sot_formula.specs.declared.finding.FoundQuantity.{FoundQuantity}
 use Rattle.sot_formula.specs.Formulas.{Formula}
-use Rattle.sot_formula.specs.Phrases.{Reference, Literal, Phrase, a_truth, a_single, a_double, a_within, a_comparison, IsPhrase}
+use Rattle.sot_formula.specs.Phrases.{Reference, Literal, Phrase, a_truth, a_single, a_double, a_row, a_within, a_comparison, StandsIn}
 use Rattle.sot_formula.specs.Meanings.{Names, NamesNothing, decimals, Means, HasUnknown, HasOtherScale}
 use Rattle.sot_formula.specs.Parts.{IsPlaced, ArePlaced, IsThere, AreThere}
 use Rattle.sot_formula.specs.Words.{single_what, double_what}
@@ -43,7 +43,8 @@ module _ (p : Tables) (rules : MeetsTableRules p) where
   pub unknown_set : (f : Phrase) (s : Laid) → (laid p f s).unknown ≡ true → (s.unknown ≡ true) ⊎ HasUnknown p f
   unknown_set (a_truth value t) s e = inl e
   unknown_set (a_single o w begin f end) s e = unknown_set f s e
-  unknown_set (a_double o w begin f comma g end) s e =
+  unknown_set (a_double o w begin row end) s e = unknown_set row s e
+  unknown_set (a_row o f comma g) s e =
       ⊎_elim (λ a. ⊎_elim (λ b. inl b) (λ b. inr (inl b)) (unknown_set f s a)) (λ b. inr (inr b)) (unknown_set g (laid p f s) e)
   unknown_set (a_within w begin n comma f end) s e = unknown_set f s e
   unknown_set (a_comparison r by z) s e = compared_unknown r (by_of by) (lit_of z) s (found_of p r) refl e
@@ -55,7 +56,8 @@ module _ (p : Tables) (rules : MeetsTableRules p) where
   unknown_stays : (f : Phrase) (s : Laid) → s.unknown ≡ true → (laid p f s).unknown ≡ true
   unknown_stays (a_truth value t) s e = e
   unknown_stays (a_single o w begin f end) s e = unknown_stays f s e
-  unknown_stays (a_double o w begin f comma g end) s e = unknown_stays g (laid p f s) (unknown_stays f s e)
+  unknown_stays (a_double o w begin row end) s e = unknown_stays row s e
+  unknown_stays (a_row o f comma g) s e = unknown_stays g (laid p f s) (unknown_stays f s e)
   unknown_stays (a_within w begin n comma f end) s e = unknown_stays f s e
   unknown_stays (a_comparison r by z) s e = compared_stays (by_of by) (lit_of z) s (found_of p r) e
 
@@ -67,8 +69,9 @@ module _ (p : Tables) (rules : MeetsTableRules p) where
   pub unknown_kept : (f : Phrase) (s : Laid) → HasUnknown p f → (laid p f s).unknown ≡ true
   unknown_kept (a_truth value t) s h = absurd h
   unknown_kept (a_single o w begin f end) s h = unknown_kept f s h
-  unknown_kept (a_double o w begin f comma g end) s (inl h) = unknown_stays g (laid p f s) (unknown_kept f s h)
-  unknown_kept (a_double o w begin f comma g end) s (inr h) = unknown_kept g (laid p f s) h
+  unknown_kept (a_double o w begin row end) s h = unknown_kept row s h
+  unknown_kept (a_row o f comma g) s (inl h) = unknown_stays g (laid p f s) (unknown_kept f s h)
+  unknown_kept (a_row o f comma g) s (inr h) = unknown_kept g (laid p f s) h
   unknown_kept (a_within w begin n comma f end) s h = unknown_kept f s h
   unknown_kept (a_comparison r by z) s h = compared_nothing r (by_of by) (lit_of z) s (found_of p r) refl h
 
@@ -87,7 +90,8 @@ module _ (p : Tables) (rules : MeetsTableRules p) where
   pub differs_set : (f : Phrase) (s : Laid) → (laid p f s).differs ≡ true → (s.differs ≡ true) ⊎ HasOtherScale p f
   differs_set (a_truth value t) s e = inl e
   differs_set (a_single o w begin f end) s e = differs_set f s e
-  differs_set (a_double o w begin f comma g end) s e =
+  differs_set (a_double o w begin row end) s e = differs_set row s e
+  differs_set (a_row o f comma g) s e =
       ⊎_elim (λ a. ⊎_elim (λ b. inl b) (λ b. inr (inl b)) (differs_set f s a)) (λ b. inr (inr b)) (differs_set g (laid p f s) e)
   differs_set (a_within w begin n comma f end) s e = differs_set f s e
   differs_set (a_comparison r by z) s e = compared_other r (by_of by) z s (found_of p r) refl e
@@ -99,15 +103,17 @@ module _ (p : Tables) (rules : MeetsTableRules p) where
   differs_stays : (f : Phrase) (s : Laid) → s.differs ≡ true → (laid p f s).differs ≡ true
   differs_stays (a_truth value t) s e = e
   differs_stays (a_single o w begin f end) s e = differs_stays f s e
-  differs_stays (a_double o w begin f comma g end) s e = differs_stays g (laid p f s) (differs_stays f s e)
+  differs_stays (a_double o w begin row end) s e = differs_stays row s e
+  differs_stays (a_row o f comma g) s e = differs_stays g (laid p f s) (differs_stays f s e)
   differs_stays (a_within w begin n comma f end) s e = differs_stays f s e
   differs_stays (a_comparison r by z) s e = compared_differs (by_of by) (lit_of z) s (found_of p r) e
 
   pub differs_kept : (f : Phrase) (s : Laid) → HasOtherScale p f → (laid p f s).differs ≡ true
   differs_kept (a_truth value t) s h = absurd h
   differs_kept (a_single o w begin f end) s h = differs_kept f s h
-  differs_kept (a_double o w begin f comma g end) s (inl h) = differs_stays g (laid p f s) (differs_kept f s h)
-  differs_kept (a_double o w begin f comma g end) s (inr h) = differs_kept g (laid p f s) h
+  differs_kept (a_double o w begin row end) s h = differs_kept row s h
+  differs_kept (a_row o f comma g) s (inl h) = differs_stays g (laid p f s) (differs_kept f s h)
+  differs_kept (a_row o f comma g) s (inr h) = differs_kept g (laid p f s) h
   differs_kept (a_within w begin n comma f end) s h = differs_kept f s h
   differs_kept (a_comparison r by z) s h =
       ap (λ o. (compared o (by_of by) (lit_of z) s).differs) (names_found p rules r h.0 h.1 h.2)
@@ -118,9 +124,12 @@ module _ (p : Tables) (rules : MeetsTableRules p) where
   means_known (a_truth value t) x m h = h
   means_known (a_single singles.Not w begin f end) x m h = means_known f m.0 m.1 h
   means_known (a_single singles.Once w begin f end) x m h = means_known f m.0 m.1 h
-  means_known (a_double doubles.And w begin f comma g end) x m h = ⊎_elim (λ a. means_known f m.0 m.2 a) (λ b. means_known g m.1 m.3 b) h
-  means_known (a_double doubles.Or w begin f comma g end) x m h = ⊎_elim (λ a. means_known f m.0 m.2 a) (λ b. means_known g m.1 m.3 b) h
-  means_known (a_double doubles.Since w begin f comma g end) x m h = ⊎_elim (λ a. means_known f m.0 m.2 a) (λ b. means_known g m.1 m.3 b) h
+  means_known (a_single singles.Always w begin f end) x m h = means_known f m.0 m.1 h
+  means_known (a_double o w begin row end) x m h = means_known row x m h
+  means_known (a_row doubles.And f comma g) x m h = ⊎_elim (λ a. means_known f m.0 m.2 a) (λ b. means_known g m.1 m.3 b) h
+  means_known (a_row doubles.Or f comma g) x m h = ⊎_elim (λ a. means_known f m.0 m.2 a) (λ b. means_known g m.1 m.3 b) h
+  means_known (a_row doubles.Since f comma g) x m h = ⊎_elim (λ a. means_known f m.0 m.2 a) (λ b. means_known g m.1 m.3 b) h
+  means_known (a_row doubles.Implies f comma g) x m h = ⊎_elim (λ a. means_known f m.0 m.2 a) (λ b. means_known g m.1 m.3 b) h
   means_known (a_within w begin n comma f end) x m h = means_known f m.0 m.1 h
   means_known (a_comparison r by z) x m h = h m.0 (decimals z) m.2
 
@@ -136,9 +145,12 @@ module _ (p : Tables) (rules : MeetsTableRules p) where
   means_same (a_truth value t) x m h = h
   means_same (a_single singles.Not w begin f end) x m h = means_same f m.0 m.1 h
   means_same (a_single singles.Once w begin f end) x m h = means_same f m.0 m.1 h
-  means_same (a_double doubles.And w begin f comma g end) x m h = ⊎_elim (λ a. means_same f m.0 m.2 a) (λ b. means_same g m.1 m.3 b) h
-  means_same (a_double doubles.Or w begin f comma g end) x m h = ⊎_elim (λ a. means_same f m.0 m.2 a) (λ b. means_same g m.1 m.3 b) h
-  means_same (a_double doubles.Since w begin f comma g end) x m h = ⊎_elim (λ a. means_same f m.0 m.2 a) (λ b. means_same g m.1 m.3 b) h
+  means_same (a_single singles.Always w begin f end) x m h = means_same f m.0 m.1 h
+  means_same (a_double o w begin row end) x m h = means_same row x m h
+  means_same (a_row doubles.And f comma g) x m h = ⊎_elim (λ a. means_same f m.0 m.2 a) (λ b. means_same g m.1 m.3 b) h
+  means_same (a_row doubles.Or f comma g) x m h = ⊎_elim (λ a. means_same f m.0 m.2 a) (λ b. means_same g m.1 m.3 b) h
+  means_same (a_row doubles.Since f comma g) x m h = ⊎_elim (λ a. means_same f m.0 m.2 a) (λ b. means_same g m.1 m.3 b) h
+  means_same (a_row doubles.Implies f comma g) x m h = ⊎_elim (λ a. means_same f m.0 m.2 a) (λ b. means_same g m.1 m.3 b) h
   means_same (a_within w begin n comma f end) x m h = means_same f m.0 m.1 h
   means_same (a_comparison r by z) x m h = h.3 (one_scale r h.0 m.0 h.1 (decimals z) h.2 m.2)
 
@@ -150,11 +162,13 @@ module _ (p : Tables) (rules : MeetsTableRules p) where
   single_placed : (o : Single) (k n : ℕ) → k < n → IsPlaced n (single_what o k)
   single_placed singles.Not k n lt = lt
   single_placed singles.Once k n lt = lt
+  single_placed singles.Always k n lt = lt
 
   double_placed : (o : Double) (j k n : ℕ) → j < n → k < n → IsPlaced n (double_what o j k)
   double_placed doubles.And j k n a b = (a, b)
   double_placed doubles.Or j k n a b = (a, b)
   double_placed doubles.Since j k n a b = (a, b)
+  double_placed doubles.Implies j k n a b = (a, b)
 
   compared_placed : (c : Comparison) (z : Lit) (s : Laid) (o : Option FoundQuantity) → ArePlaced s.whats → ArePlaced (compared o c z s).whats
   compared_placed c z s None all = put_placed s (whats.Truth false) all tt
@@ -163,22 +177,23 @@ module _ (p : Tables) (rules : MeetsTableRules p) where
   below : (f : Phrase) (s : Laid) → place (laid p f s) < length (laid p f s).whats
   below f s = (let e = (extends p f s).some in omega (arith, e))
 
-  pub placed : (f : Phrase) (s : Laid) → IsPhrase f → ArePlaced s.whats → ArePlaced (laid p f s).whats
-  placed (a_truth value t) s is all = put_placed s (whats.Truth value) all tt
-  placed (a_single o w begin f end) s is all =
-      put_placed (laid p f s) (single_what o (place (laid p f s))) (placed f s is.2 all)
+  pub placed : (f : Phrase) (word : Option Double) (s : Laid) → StandsIn f word → ArePlaced s.whats → ArePlaced (laid p f s).whats
+  placed (a_truth value t) word s is all = put_placed s (whats.Truth value) all tt
+  placed (a_single o w begin f end) word s is all =
+      put_placed (laid p f s) (single_what o (place (laid p f s))) (placed f None s is.2 all)
       (single_placed o (place (laid p f s)) (length (laid p f s).whats) (below f s))
-  placed (a_double o w begin f comma g end) s is all =
+  placed (a_double o w begin row end) word s is all = placed row (Some o) s is.2 all
+  placed (a_row o f comma g) word s is all =
       let t = laid p f s in
       let u = laid p g t in
       let more = (extends p g t).some in
       let low = below f s in
-      put_placed u (double_what o (place t) (place u)) (placed g t is.4 (placed f s is.2 all))
+      put_placed u (double_what o (place t) (place u)) (placed g None t is.3 (placed f word s is.1 all))
       (double_placed o (place t) (place u) (length u.whats) (omega (arith, more, low)) (below g t))
-  placed (a_within w begin n comma f end) s is all =
+  placed (a_within w begin n comma f end) word s is all =
       let few : ticks_of (literal n) ≤ 100000 = is.2.few in
-      put_placed (laid p f s) (whats.Within (ticks_of (literal n)) (place (laid p f s))) (placed f s is.4 all) (below f s, few)
-  placed (a_comparison r by z) s is all = compared_placed (by_of by) (lit_of z) s (found_of p r) all
+      put_placed (laid p f s) (whats.Within (ticks_of (literal n)) (place (laid p f s))) (placed f None s is.4 all) (below f s, few)
+  placed (a_comparison r by z) word s is all = compared_placed (by_of by) (lit_of z) s (found_of p r) all
 
   abbrev IsThereIn : What → Type 0
   IsThereIn w = (q : _) (by : _) (number : _) → w ≡ whats.Compared q by number → IsThere p q
@@ -193,11 +208,13 @@ module _ (p : Tables) (rules : MeetsTableRules p) where
   single_there : (o : Single) (k : ℕ) → IsThereIn (single_what o k)
   single_there singles.Not k q by number e = absurd cc
   single_there singles.Once k q by number e = absurd cc
+  single_there singles.Always k q by number e = absurd cc
 
   double_there : (o : Double) (j k : ℕ) → IsThereIn (double_what o j k)
   double_there doubles.And j k q by number e = absurd cc
   double_there doubles.Or j k q by number e = absurd cc
   double_there doubles.Since j k q by number e = absurd cc
+  double_there doubles.Implies j k q by number e = absurd cc
 
   within_there : (n k : ℕ) → IsThereIn (whats.Within n k)
   within_there n k q by number e = absurd cc
@@ -212,7 +229,8 @@ module _ (p : Tables) (rules : MeetsTableRules p) where
   pub there : (f : Phrase) (s : Laid) → AreThere p s.whats → AreThere p (laid p f s).whats
   there (a_truth value t) s all = put_there s (whats.Truth value) all (truth_there value)
   there (a_single o w begin f end) s all = put_there (laid p f s) _ (there f s all) (single_there o (place (laid p f s)))
-  there (a_double o w begin f comma g end) s all =
+  there (a_double o w begin row end) s all = there row s all
+  there (a_row o f comma g) s all =
       put_there (laid p g (laid p f s)) _ (there g (laid p f s) (there f s all)) (double_there o (place (laid p f s)) (place (laid p g (laid p f s))))
   there (a_within w begin n comma f end) s all = put_there (laid p f s) _ (there f s all) (within_there (ticks_of (literal n)) (place (laid p f s)))
   there (a_comparison r by z) s all = compared_there r (by_of by) (lit_of z) s (found_of p r) refl all

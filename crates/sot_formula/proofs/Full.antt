@@ -1,13 +1,13 @@
 -- Each phrase is read.
-use Rattle.std.proofs.Common.{◌≡◌, ℕ, zero, suc, ◌≤◌, ◌&&◌, ◌==◌, cond, List, ◌∷◌, Bool, true}
-use Rattle.std.proofs.Common.{false, pos, codes, Option, Ok, Err, refl, sym, ap, ap₂, ◌∙◌, arith}
+use Rattle.std.proofs.Common.{◌≡◌, ℕ, zero, suc, ◌≤◌, ◌+◌, ◌-◌, ◌&&◌, ◌==◌, cond, List, ◌∷◌, Bool, true}
+use Rattle.std.proofs.Common.{false, pos, codes, Option, Some, Ok, Err, refl, sym, ap, ap₂, subst, ◌∙◌, arith}
 use Rattle.std.specs.Prelude.{int_le}
 use Rattle.std.proofs.lemmas.Int.{clamps}
 use Rattle.std.proofs.lemmas.Bool.Decides.{nat_tests}
 use Rattle.sot_text.specs.Lexeme.{mantissa_of, decimals_of}
 use Rattle.sot_text.specs.Reading.{Lexeme}
 use Rattle.sot_lang.specs.Tables.{Tables}
-use Rattle.sot_expression.specs.Lexemes.{IsSign, IsName, IsNumber, is_sign, is_name, is_number, literal, negative_literal}
+use Rattle.sot_expression.specs.Lexemes.{IsSign, IsName, IsNumber, begins, is_sign, is_name, is_number, literal, negative_literal}
 use Rattle.sot_expression.specs.Readers.{Read, ◌>>=◌, stuck, one_token, expect, number_at, negative_at, literal_at}
 use Rattle.sot_expression.specs.Stream.{first_of}
 use Rattle.sot_expression.proofs.TokenTests.{sign_is, name_is, number_is}
@@ -22,13 +22,14 @@ use Rattle.sot_formula.specs.declared.words.Double.{Double}
 use Rattle.sot_formula.specs.declared.words.Double.TheVariants as doubles
 use Rattle.sot_formula.specs.declared.finding.FoundQuantity.{FoundQuantity}
 use Rattle.sot_formula.specs.Phrases.{Reference, a_mode, a_name, a_field, Literal, a_number}
-use Rattle.sot_formula.specs.Phrases.{a_negative, Phrase, a_truth, a_single, a_double, a_within, a_comparison}
+use Rattle.sot_formula.specs.Phrases.{a_negative, Phrase, a_truth, a_single, a_double, a_row, a_within, a_comparison}
 use Rattle.sot_formula.specs.Phrases.{literal_spelled, spelled, IsReference, IsLiteral, IsComparing, AreTicks, IsPhrase, levels_of}
+use Rattle.sot_formula.specs.Phrases.{row_length, most_parts, HasParts, StandsIn}
 use Rattle.sot_formula.specs.Words.{opening_of, opening_from, word_of, single_what, double_what}
 use Rattle.sot_formula.specs.Finding.{plain_named, part_named, module_named}
 use Rattle.sot_formula.specs.Reading.{Laid, place, put, compared, Reader, name_token}
 use Rattle.sot_formula.specs.Reading.{any_token, found_or_stuck, comparing_at, comparison_at, ticks_of, are_ticks, ticks_at}
-use Rattle.sot_formula.specs.Reading.{single_at, double_at, within_at, mode_at, mode_compared_at}
+use Rattle.sot_formula.specs.Reading.{single_at, joined_at, more_at, row_at, double_at, within_at, mode_at, mode_compared_at}
 use Rattle.sot_formula.specs.Reading.{part_at, named_at, called_at, behind_name_at, opened_at, formula_at}
 use Rattle.sot_formula.proofs.Laying.{or_less, by_of, lit_of, laid, signs, some_sign, truth_opens, not_opens, and_opens, or_opens, name_opens}
 
@@ -121,17 +122,75 @@ module _ (p : Tables) (r : ℕ) (inner : Reader) (each : EachPhrase p r inner) w
       give (sign_read (codes "(") begin (spelled f (end ∷ us)) (open_is begin b)) _ y
       (give (each f s (end ∷ us) is low) _ y (give (sign_read (codes ")") end us (close_is end e)) _ y refl))
 
-  double_full : (o : Double) (s : Laid) (begin : Lexeme) (f : Phrase) (comma : Lexeme) (g : Phrase) (end : Lexeme) (us : List Lexeme)
-      → IsSign (codes "(") begin → IsPhrase f → IsSign (codes ",") comma → IsPhrase g → IsSign (codes ")") end → levels_of f ≤ r → levels_of g ≤ r
-      → double_at o inner s (begin ∷ spelled f (comma ∷ spelled g (end ∷ us)))
-      ≡ Ok (put (double_what o (place (laid p f s)) (place (laid p g (laid p f s)))) (laid p g (laid p f s)), us)
-  unfolding double_at
-  double_full o s begin f comma g end us b is_f c is_g e low_f low_g =
-      let y : Read Laid = Ok (put (double_what o (place (laid p f s)) (place (laid p g (laid p f s)))) (laid p g (laid p f s)), us) in
-      give (sign_read (codes "(") begin (spelled f (comma ∷ spelled g (end ∷ us))) (open_is begin b)) _ y
-      (give (each f s (comma ∷ spelled g (end ∷ us)) is_f low_f) _ y
-      (give (sign_read (codes ",") comma (spelled g (end ∷ us)) (comma_is comma c)) _ y
-      (give (each g (laid p f s) (end ∷ us) is_g low_g) _ y (give (sign_read (codes ")") end us (close_is end e)) _ y refl))))
+  joined_full : (o : Double) (f : Phrase) (s : Laid) (comma : Lexeme) (g : Phrase) (us : List Lexeme) → IsSign (codes ",") comma → IsPhrase g → levels_of g ≤ r
+      → joined_at o inner (laid p f s) (comma ∷ spelled g us) ≡ Ok (laid p (a_row o f comma g) s, us)
+  unfolding joined_at
+  joined_full o f s comma g us c is low =
+      let y : Read Laid = Ok (laid p (a_row o f comma g) s, us) in
+      give (sign_read (codes ",") comma (spelled g us) (comma_is comma c)) _ y (give (each g (laid p f s) us is low) _ y refl)
+
+  -- a row from its first part on, and from its second
+  abbrev from_first : Double → ℕ → Laid → List Lexeme → Read Laid
+  from_first o count s ts = inner s ts >>= λ f. joined_at o inner f.0 f.1 >>= λ g. more_at o inner count g.0 g.1
+
+  abbrev from_second : Double → ℕ → Laid → List Lexeme → Read Laid
+  from_second o count s ts = joined_at o inner s ts >>= λ g. more_at o inner count g.0 g.1
+
+  first_full : (o : Double) (f : Phrase) (n m : ℕ) (s : Laid) (ts : List Lexeme) → IsPhrase f → levels_of f ≤ r → n + 1 ≡ 1 + m
+      → from_first o n s (spelled f ts) ≡ from_second o m (laid p f s) ts
+  first_full o f n m s ts is low count =
+      let same : n ≡ m = omega (arith, count) in
+      give (each f s ts is low) _ (from_second o m (laid p f s) ts) (ap (λ k. from_second o k (laid p f s) ts) same)
+
+  row_full : (o : Double) (f : Phrase) (n m : ℕ) (s : Laid) (comma : Lexeme) (ts : List Lexeme) → IsSign (codes ",") comma → StandsIn f (Some o) → levels_of f ≤ r
+      → n + 1 ≡ row_length f + m → from_first o n s (spelled f (comma ∷ ts)) ≡ from_second o m (laid p f s) (comma ∷ ts)
+  unfolding more_at
+  row_full o (a_row q f c g) n m s comma ts is_comma is low count =
+      let on = subst (λ (v : Double). from_first o n s (spelled f (c ∷ spelled g (comma ∷ ts))) ≡ from_second o (suc m) (laid p f s) (c ∷ spelled g (comma ∷ ts))) is.0
+      (row_full o f n (suc m) s c (spelled g (comma ∷ ts)) is.2 is.1 (omega (arith, clamps, low)) (omega (arith, count))) in
+      let y : Read Laid = from_second o m (laid p (a_row o f c g) s) (comma ∷ ts) in
+      let more : from_second o (suc m) (laid p f s) (c ∷ spelled g (comma ∷ ts)) ≡ y =
+      give (joined_full o f s c g (comma ∷ ts) is.2 is.3 (omega (arith, clamps, low))) _ y
+      (ap (λ (b : Bool). cond b y (Ok (laid p (a_row o f c g) s, comma ∷ ts))) (comma_is comma is_comma)) in
+      on ∙ more ∙ ap (λ (v : Double). from_second o m (laid p (a_row v f c g) s) (comma ∷ ts)) (sym is.0)
+  row_full o (a_truth value t) n m s comma ts is_comma is low count = first_full o (a_truth value t) n m s (comma ∷ ts) is low count
+  row_full o (a_single q w begin f end) n m s comma ts is_comma is low count = first_full o (a_single q w begin f end) n m s (comma ∷ ts) is low count
+  row_full o (a_double q w begin f end) n m s comma ts is_comma is low count = first_full o (a_double q w begin f end) n m s (comma ∷ ts) is low count
+  row_full o (a_within w begin k c f end) n m s comma ts is_comma is low count = first_full o (a_within w begin k c f end) n m s (comma ∷ ts) is low count
+  row_full o (a_comparison q by z) n m s comma ts is_comma is low count = first_full o (a_comparison q by z) n m s (comma ∷ ts) is low count
+
+  -- no part stands behind the last one
+  more_ends : (o : Double) (count : ℕ) (s : Laid) (end : Lexeme) (us : List Lexeme) → IsSign (codes ")") end
+      → more_at o inner count s (end ∷ us) ≡ Ok (s, end ∷ us)
+  unfolding more_at
+  more_ends o zero s end us e = refl
+  more_ends o (suc count) s end us e =
+      ap (λ (b : Bool). cond b (from_second o count s (end ∷ us)) (Ok (s, end ∷ us))) (ap (is_sign (codes ",")) (sign_is (codes ")") end e))
+
+  double_full : (o : Double) (s : Laid) (begin : Lexeme) (row : Phrase) (end : Lexeme) (us : List Lexeme)
+      → IsSign (codes "(") begin → StandsIn row (Some o) → HasParts o row → IsSign (codes ")") end → levels_of row ≤ r
+      → double_at o inner s (begin ∷ spelled row (end ∷ us)) ≡ Ok (laid p row s, us)
+  unfolding double_at row_at
+  double_full o s begin (a_row q f comma g) end us b is parts e low =
+      let n = most_parts o - 2 in
+      let m = n + 1 - row_length f in
+      let few = parts.1 in
+      let some = parts.0 in
+      let count : n + 1 ≡ row_length f + m = omega (arith, few, some) in
+      let ts : List Lexeme = end ∷ us in
+      let z : Read Laid = Ok (laid p (a_row o f comma g) s, ts) in
+      let row : from_first o n s (spelled f (comma ∷ spelled g ts)) ≡ z =
+      row_full o f n m s comma (spelled g ts) is.2 is.1 (omega (arith, clamps, low)) count
+      ∙ give (joined_full o f s comma g ts is.2 is.3 (omega (arith, clamps, low))) _ z (more_ends o m (laid p (a_row o f comma g) s) end us e) in
+      let y : Read Laid = Ok (laid p (a_row o f comma g) s, us) in
+      give (sign_read (codes "(") begin (spelled f (comma ∷ spelled g ts)) (open_is begin b)) _ y
+      (give row _ y (give (sign_read (codes ")") end us (close_is end e)) _ y refl))
+      ∙ ap (λ (v : Double). Ok (laid p (a_row v f comma g) s, us)) (sym is.0)
+  double_full o s begin (a_truth value t) end us b is parts e low = (let some = parts.0 in absurd (omega (arith, some)))
+  double_full o s begin (a_single q w c f d) end us b is parts e low = (let some = parts.0 in absurd (omega (arith, some)))
+  double_full o s begin (a_double q w c f d) end us b is parts e low = (let some = parts.0 in absurd (omega (arith, some)))
+  double_full o s begin (a_within w c n d f h) end us b is parts e low = (let some = parts.0 in absurd (omega (arith, some)))
+  double_full o s begin (a_comparison q by z) end us b is parts e low = (let some = parts.0 in absurd (omega (arith, some)))
 
   within_full : (s : Laid) (begin n comma : Lexeme) (f : Phrase) (end : Lexeme) (us : List Lexeme)
       → IsSign (codes "(") begin → AreTicks n → IsSign (codes ",") comma
@@ -216,16 +275,25 @@ module _ (p : Tables) (r : ℕ) (inner : Reader) (each : EachPhrase p r inner) w
       word_opens w begin s (spelled f (end ∷ us)) _ is.0.name is.1
       (ap (λ v. called_at p inner (word_of v) s (begin ∷ spelled f (end ∷ us))) is.0.text_is
       ∙ single_full singles.Once s begin f end us is.1 is.2 is.3 (omega (arith, low)))
-  phrase_full (a_double doubles.And w begin f comma g end) s us is low =
-      ap (λ o. opened_at p inner o s (w ∷ begin ∷ spelled f (comma ∷ spelled g (end ∷ us)))) (and_opens w is.0)
-      ∙ double_full doubles.And s begin f comma g end us is.1 is.2 is.3 is.4 is.5 (omega (arith, clamps, low)) (omega (arith, clamps, low))
-  phrase_full (a_double doubles.Or w begin f comma g end) s us is low =
-      ap (λ o. opened_at p inner o s (w ∷ begin ∷ spelled f (comma ∷ spelled g (end ∷ us)))) (or_opens w is.0)
-      ∙ double_full doubles.Or s begin f comma g end us is.1 is.2 is.3 is.4 is.5 (omega (arith, clamps, low)) (omega (arith, clamps, low))
-  phrase_full (a_double doubles.Since w begin f comma g end) s us is low =
-      word_opens w begin s (spelled f (comma ∷ spelled g (end ∷ us))) _ is.0.name is.1
-      (ap (λ v. called_at p inner (word_of v) s (begin ∷ spelled f (comma ∷ spelled g (end ∷ us)))) is.0.text_is
-      ∙ double_full doubles.Since s begin f comma g end us is.1 is.2 is.3 is.4 is.5 (omega (arith, clamps, low)) (omega (arith, clamps, low)))
+  phrase_full (a_single singles.Always w begin f end) s us is low =
+      word_opens w begin s (spelled f (end ∷ us)) _ is.0.name is.1
+      (ap (λ v. called_at p inner (word_of v) s (begin ∷ spelled f (end ∷ us))) is.0.text_is
+      ∙ single_full singles.Always s begin f end us is.1 is.2 is.3 (omega (arith, low)))
+  phrase_full (a_double doubles.And w begin row end) s us is low =
+      ap (λ o. opened_at p inner o s (w ∷ begin ∷ spelled row (end ∷ us))) (and_opens w is.0)
+      ∙ double_full doubles.And s begin row end us is.1 is.2 is.3 is.4 (omega (arith, low))
+  phrase_full (a_double doubles.Or w begin row end) s us is low =
+      ap (λ o. opened_at p inner o s (w ∷ begin ∷ spelled row (end ∷ us))) (or_opens w is.0)
+      ∙ double_full doubles.Or s begin row end us is.1 is.2 is.3 is.4 (omega (arith, low))
+  phrase_full (a_double doubles.Since w begin row end) s us is low =
+      word_opens w begin s (spelled row (end ∷ us)) _ is.0.name is.1
+      (ap (λ v. called_at p inner (word_of v) s (begin ∷ spelled row (end ∷ us))) is.0.text_is
+      ∙ double_full doubles.Since s begin row end us is.1 is.2 is.3 is.4 (omega (arith, low)))
+  phrase_full (a_double doubles.Implies w begin row end) s us is low =
+      word_opens w begin s (spelled row (end ∷ us)) _ is.0.name is.1
+      (ap (λ v. called_at p inner (word_of v) s (begin ∷ spelled row (end ∷ us))) is.0.text_is
+      ∙ double_full doubles.Implies s begin row end us is.1 is.2 is.3 is.4 (omega (arith, low)))
+  phrase_full (a_row o f comma g) s us is low = absurd is.0
   phrase_full (a_within w begin n comma f end) s us is low =
       word_opens w begin s (n ∷ comma ∷ spelled f (end ∷ us)) _ is.0.name is.1
       (ap (λ v. called_at p inner (word_of v) s (begin ∷ n ∷ comma ∷ spelled f (end ∷ us))) is.0.text_is
@@ -235,7 +303,8 @@ module _ (p : Tables) (r : ℕ) (inner : Reader) (each : EachPhrase p r inner) w
 levels_some : (f : Phrase) → 1 ≤ levels_of f
 levels_some (a_truth value t) = omega arith
 levels_some (a_single o w begin f end) = omega arith
-levels_some (a_double o w begin f comma g end) = omega arith
+levels_some (a_double o w begin row end) = omega arith
+levels_some (a_row o f comma g) = (let some = levels_some f in omega (arith, clamps, some))
 levels_some (a_within w begin n comma f end) = omega arith
 levels_some (a_comparison r by z) = omega arith
 

@@ -1,5 +1,5 @@
 -- The parts of a phrase, and the tests on its tokens.
-use Rattle.std.proofs.Common.{◌≡◌, ℕ, cond, List, Bool, true, false, codes, Option, Some, None, inl, inr, refl, ap, subst}
+use Rattle.std.proofs.Common.{◌≡◌, ℕ, cond, List, Bool, true, false, codes, Option, Some, None, inl, inr, refl, ap, subst, ◌∙◌}
 use Rattle.std.specs.Str.{bytes_eq}
 use Rattle.std.proofs.lemmas.Slice.Eq.{bytes_eq-Decides}
 use Rattle.sot_text.specs.Reading.{Lexeme}
@@ -18,7 +18,7 @@ use Rattle.sot_formula.specs.declared.words.Word.{Word}
 use Rattle.sot_formula.specs.declared.words.Word.TheVariants as words
 use Rattle.sot_formula.specs.declared.finding.FoundQuantity.{FoundQuantity}
 use Rattle.sot_formula.specs.Phrases.{Reference, a_mode, a_name, a_field, Literal, a_number}
-use Rattle.sot_formula.specs.Phrases.{a_negative, Phrase, a_truth, a_single, a_double, a_within, a_comparison}
+use Rattle.sot_formula.specs.Phrases.{a_negative, Phrase, a_truth, a_single, a_double, a_row, a_within, a_comparison}
 use Rattle.sot_formula.specs.Phrases.{IsSingle, IsDouble, IsTruth, IsComparing}
 use Rattle.sot_formula.specs.Meanings.{sign_text}
 use Rattle.sot_formula.specs.Words.{comparing_of, opening_of, word_of, single_what, double_what}
@@ -45,7 +45,8 @@ lit_of (a_negative minus n) = negative_literal minus n
 abbrev pub laid : Tables → Phrase → Laid → Laid
 laid p (a_truth value t) s = put (whats.Truth value) s
 laid p (a_single o w begin f end) s = put (single_what o (place (laid p f s))) (laid p f s)
-laid p (a_double o w begin f comma g end) s = put (double_what o (place (laid p f s)) (place (laid p g (laid p f s)))) (laid p g (laid p f s))
+laid p (a_double o w begin row end) s = laid p row s
+laid p (a_row o f comma g) s = put (double_what o (place (laid p f s)) (place (laid p g (laid p f s)))) (laid p g (laid p f s))
 laid p (a_within w begin n comma f end) s = put (whats.Within (ticks_of (literal n)) (place (laid p f s))) (laid p f s)
 laid p (a_comparison r by z) s = compared (found_of p r) (by_of by) (lit_of z) s
 
@@ -74,8 +75,8 @@ opening_tells t =
 
 -- what a name is in front of a parenthesis
 abbrev pub IsWordOf : List ℕ → Word → Type 0
-IsWordOf name (words.Single o) = (o ≡ singles.Once) × (name ≡ codes "once")
-IsWordOf name (words.Double o) = (o ≡ doubles.Since) × (name ≡ codes "since")
+IsWordOf name (words.Single o) = (w : Lexeme) → IsName w → w.text ≡ name → IsSingle o w
+IsWordOf name (words.Double o) = (w : Lexeme) → IsName w → w.text ≡ name → IsDouble o w
 IsWordOf name words.Within = name ≡ codes "within"
 IsWordOf name words.Mode = name ≡ codes "mode"
 IsWordOf name words.Other = Unit {0}
@@ -86,10 +87,15 @@ same_word name word e = (bytes_eq-Decides name word).0 e
 pub word_tells : (name : List ℕ) → IsWordOf name (word_of name)
 word_tells name =
     let P = IsWordOf name in
-    case_by P (bytes_eq name (codes "once")) (words.Single singles.Once) _ (λ e. (refl, same_word name (codes "once") e))
-    (case_by P (bytes_eq name (codes "since")) (words.Double doubles.Since) _ (λ e. (refl, same_word name (codes "since") e))
+    case_by P (bytes_eq name (codes "once")) (words.Single singles.Once) _ (λ e w n is. record { name = n; text_is = is ∙ same_word name (codes "once") e })
+    (case_by P (bytes_eq name (codes "always")) (words.Single singles.Always) _
+    (λ e w n is. record { name = n; text_is = is ∙ same_word name (codes "always") e })
+    (case_by P (bytes_eq name (codes "since")) (words.Double doubles.Since) _
+    (λ e w n is. record { name = n; text_is = is ∙ same_word name (codes "since") e })
+    (case_by P (bytes_eq name (codes "implies")) (words.Double doubles.Implies) _
+    (λ e w n is. record { name = n; text_is = is ∙ same_word name (codes "implies") e })
     (case_by P (bytes_eq name (codes "within")) words.Within _ (same_word name (codes "within"))
-    (case_by P (bytes_eq name (codes "mode")) words.Mode words.Other (same_word name (codes "mode")) tt)))
+    (case_by P (bytes_eq name (codes "mode")) words.Mode words.Other (same_word name (codes "mode")) tt)))))
 
 -- the sign of a comparison
 abbrev pub IsSigned : Lexeme → Option Comparison → Type 0

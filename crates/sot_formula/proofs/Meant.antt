@@ -18,11 +18,12 @@ use Rattle.sot_formula.specs.declared.quantity.Comparison.{Comparison}
 use Rattle.sot_formula.specs.declared.what.What.{What}
 use Rattle.sot_formula.specs.declared.what.What.TheVariants as whats
 use Rattle.sot_formula.specs.declared.words.Single.TheVariants as singles
+use Rattle.sot_formula.specs.declared.words.Double.{Double}
 use Rattle.sot_formula.specs.declared.words.Double.TheVariants as doubles
 use Rattle.sot_formula.specs.declared.finding.FoundQuantity.{FoundQuantity}
-use Rattle.sot_formula.specs.Formulas.{Formula, Truth, Compared, Not, And, Or, Once, Since, Within}
+use Rattle.sot_formula.specs.Formulas.{Formula, Truth, Compared, Not, And, Or, Implies, Once, Always, Since, Within}
 use Rattle.sot_formula.specs.Phrases.{Reference, a_mode, a_name, a_field, Literal, a_number, a_negative}
-use Rattle.sot_formula.specs.Phrases.{Phrase, a_truth, a_single, a_double, a_within, a_comparison, IsPhrase}
+use Rattle.sot_formula.specs.Phrases.{Phrase, a_truth, a_single, a_double, a_row, a_within, a_comparison, StandsIn, IsPhrase}
 use Rattle.sot_formula.specs.Meanings.{Names, mantissa, decimals, IsCompared, Means}
 use Rattle.sot_formula.specs.Parts.{IsPart, part_count, IsThere}
 use Rattle.sot_formula.specs.Reading.{Laid, place, put, compared, ticks_of}
@@ -52,7 +53,10 @@ part_stays ws more i (Compared of by number) at = at_front ws more i _ at
 part_stays ws more i (Not f) h = (h.0, at_front ws more i _ h.1, h.2, part_stays ws more h.0 f h.3)
 part_stays ws more i (And f g) h = (h.0, h.1, at_front ws more i _ h.2, h.3, h.4, part_stays ws more h.0 f h.5, part_stays ws more h.1 g h.6)
 part_stays ws more i (Or f g) h = (h.0, h.1, at_front ws more i _ h.2, h.3, h.4, part_stays ws more h.0 f h.5, part_stays ws more h.1 g h.6)
+part_stays ws more i (Implies f g) h =
+    (h.0, h.1, at_front ws more i _ h.2, h.3, h.4, part_stays ws more h.0 f h.5, part_stays ws more h.1 g h.6)
 part_stays ws more i (Once f) h = (h.0, at_front ws more i _ h.1, h.2, part_stays ws more h.0 f h.3)
+part_stays ws more i (Always f) h = (h.0, at_front ws more i _ h.1, h.2, part_stays ws more h.0 f h.3)
 part_stays ws more i (Since f g) h = (h.0, h.1, at_front ws more i _ h.2, h.3, h.4, part_stays ws more h.0 f h.5, part_stays ws more h.1 g h.6)
 part_stays ws more i (Within ticks f) h = (h.0, at_front ws more i _ h.1, h.2, part_stays ws more h.0 f h.3)
 
@@ -76,7 +80,8 @@ compared_extends (Some x) by z s = put_extends s _ (whats.Compared x.of by z.man
 pub extends : (p : Tables) (f : Phrase) (s : Laid) → Extends s (laid p f s)
 extends p (a_truth value t) s = put_extends s _ (whats.Truth value) refl
 extends p (a_single o w begin f end) s = then_extends s (laid p f s) _ (extends p f s) (put_extends (laid p f s) _ _ refl)
-extends p (a_double o w begin f comma g end) s =
+extends p (a_double o w begin row end) s = extends p row s
+extends p (a_row o f comma g) s =
     then_extends s (laid p f s) _ (extends p f s) (then_extends (laid p f s) (laid p g (laid p f s)) _ (extends p g (laid p f s))
     (put_extends (laid p g (laid p f s)) _ _ refl))
 extends p (a_within w begin n comma f end) s = then_extends s (laid p f s) _ (extends p f s) (put_extends (laid p f s) _ _ refl)
@@ -187,12 +192,12 @@ module _ (p : Tables) (rules : MeetsTableRules p) where
         flags.0,
       )
 
-  pub meant : (f : Phrase) (s : Laid) → IsPhrase f → (laid p f s).unknown ≡ false → (laid p f s).differs ≡ false → IsMeant f s
-  meant (a_truth value t) s is known same =
+  pub meant : (f : Phrase) (word : Option Double) (s : Laid) → StandsIn f word → (laid p f s).unknown ≡ false → (laid p f s).differs ≡ false → IsMeant f s
+  meant (a_truth value t) word s is known same =
       let n = length_last s.whats (whats.Truth value) in
       record { formula = Truth value; means = refl; part = last_put s (whats.Truth value); count = omega (arith, n); known = known; same = same }
-  meant (a_single singles.Not w begin f end) s is known same =
-      let g = meant f s is.2 known same in
+  meant (a_single singles.Not w begin f end) word s is known same =
+      let g = meant f None s is.2 known same in
       let t = laid p f s in
       let step = put_extends t (put (whats.Not (place t)) t) (whats.Not (place t)) refl in
       let n = length_last t.whats (whats.Not (place t)) in
@@ -204,8 +209,8 @@ module _ (p : Tables) (rules : MeetsTableRules p) where
         known = g.known;
         same = g.same;
       }
-  meant (a_single singles.Once w begin f end) s is known same =
-      let g = meant f s is.2 known same in
+  meant (a_single singles.Once w begin f end) word s is known same =
+      let g = meant f None s is.2 known same in
       let t = laid p f s in
       let step = put_extends t (put (whats.Once (place t)) t) (whats.Once (place t)) refl in
       let n = length_last t.whats (whats.Once (place t)) in
@@ -217,11 +222,27 @@ module _ (p : Tables) (rules : MeetsTableRules p) where
         known = g.known;
         same = g.same;
       }
-  meant (a_double doubles.And w begin f comma g end) s is known same =
+  meant (a_single singles.Always w begin f end) word s is known same =
+      let g = meant f None s is.2 known same in
+      let t = laid p f s in
+      let step = put_extends t (put (whats.Always (place t)) t) (whats.Always (place t)) refl in
+      let n = length_last t.whats (whats.Always (place t)) in
+      record {
+        formula = Always g.formula;
+        means = (g.formula, g.means, refl);
+        part = (place t, last_put t (whats.Always (place t)), below_put s t t (whats.Always (place t)) (extends p f s) (inl refl), stays t _ g.formula step g.part);
+        count = omega (arith, n, g.count);
+        known = g.known;
+        same = g.same;
+      }
+  meant (a_double o w begin row end) word s is known same =
+      let g = meant row (Some o) s is.2 known same in
+      record { formula = g.formula; means = g.means; part = g.part; count = g.count; known = g.known; same = g.same }
+  meant (a_row doubles.And f comma g) word s is known same =
       let t = laid p f s in
       let u = laid p g t in
-      let b = meant g t is.4 known same in
-      let a = meant f s is.2 b.known b.same in
+      let b = meant g None t is.3 known same in
+      let a = meant f word s is.1 b.known b.same in
       let w' = whats.And (place t) (place u) in
       let on = put_extends u (put w' u) w' refl in
       let n = length_last u.whats w' in
@@ -241,11 +262,11 @@ module _ (p : Tables) (rules : MeetsTableRules p) where
         known = a.known;
         same = a.same;
       }
-  meant (a_double doubles.Or w begin f comma g end) s is known same =
+  meant (a_row doubles.Or f comma g) word s is known same =
       let t = laid p f s in
       let u = laid p g t in
-      let b = meant g t is.4 known same in
-      let a = meant f s is.2 b.known b.same in
+      let b = meant g None t is.3 known same in
+      let a = meant f word s is.1 b.known b.same in
       let w' = whats.Or (place t) (place u) in
       let on = put_extends u (put w' u) w' refl in
       let n = length_last u.whats w' in
@@ -265,11 +286,11 @@ module _ (p : Tables) (rules : MeetsTableRules p) where
         known = a.known;
         same = a.same;
       }
-  meant (a_double doubles.Since w begin f comma g end) s is known same =
+  meant (a_row doubles.Since f comma g) word s is known same =
       let t = laid p f s in
       let u = laid p g t in
-      let b = meant g t is.4 known same in
-      let a = meant f s is.2 b.known b.same in
+      let b = meant g None t is.3 known same in
+      let a = meant f word s is.1 b.known b.same in
       let w' = whats.Since (place t) (place u) in
       let on = put_extends u (put w' u) w' refl in
       let n = length_last u.whats w' in
@@ -289,8 +310,32 @@ module _ (p : Tables) (rules : MeetsTableRules p) where
         known = a.known;
         same = a.same;
       }
-  meant (a_within w begin n comma f end) s is known same =
-      let g = meant f s is.4 known same in
+  meant (a_row doubles.Implies f comma g) word s is known same =
+      let t = laid p f s in
+      let u = laid p g t in
+      let b = meant g None t is.3 known same in
+      let a = meant f word s is.1 b.known b.same in
+      let w' = whats.Implies (place t) (place u) in
+      let on = put_extends u (put w' u) w' refl in
+      let n = length_last u.whats w' in
+      record {
+        formula = Implies a.formula b.formula;
+        means = (a.formula, b.formula, a.means, b.means, refl);
+        part = (
+          place t,
+          place u,
+          last_put u w',
+          below_put s t u w' (extends p f s) (inr (extends p g t)),
+          below_put t u u w' (extends p g t) (inl refl),
+          stays t _ a.formula (then_extends t u _ (extends p g t) on) a.part,
+          stays u _ b.formula on b.part,
+        );
+        count = omega (arith, n, a.count, b.count);
+        known = a.known;
+        same = a.same;
+      }
+  meant (a_within w begin n comma f end) word s is known same =
+      let g = meant f None s is.4 known same in
       let t = laid p f s in
       let w' = whats.Within (ticks_of (literal n)) (place t) in
       let step = put_extends t (put w' t) w' refl in
@@ -303,7 +348,7 @@ module _ (p : Tables) (rules : MeetsTableRules p) where
         known = g.known;
         same = g.same;
       }
-  meant (a_comparison r by z) s is known same =
+  meant (a_comparison r by z) word s is known same =
       let h = compared_meant r by z s (found_of p r) refl is known same in
       let n = one_compared (found_of p r) (by_of by) (lit_of z) s in
       let one : part_count h.0 ≡ 1 = ap part_count h.1.4 in

@@ -1,5 +1,5 @@
 -- What is read is a phrase, and leaves its parts.
-use Rattle.std.proofs.Common.{◌≡◌, ℕ, zero, suc, ◌≤◌, ◌&&◌, ◌==◌, List, [], ◌∷◌, Bool, true, false}
+use Rattle.std.proofs.Common.{◌≡◌, ℕ, zero, suc, ◌≤◌, ◌+◌, ◌-◌, ◌&&◌, ◌==◌, List, [], ◌∷◌, Bool, true, false}
 use Rattle.std.proofs.Common.{pos, codes, Option, Some, None, Ok, refl, sym, ap, ap₂, subst, ◌∙◌, arith}
 use Rattle.std.specs.Prelude.{int_le}
 use Rattle.std.proofs.lemmas.Int.{clamps}
@@ -17,18 +17,20 @@ use Rattle.sot_formula.specs.declared.quantity.Comparison.{Comparison}
 use Rattle.sot_formula.specs.declared.what.What.TheVariants as whats
 use Rattle.sot_formula.specs.declared.words.Single.{Single}
 use Rattle.sot_formula.specs.declared.words.Double.{Double}
+use Rattle.sot_formula.specs.declared.words.Double.TheVariants as doubles
 use Rattle.sot_formula.specs.declared.words.FormulaOpening.{FormulaOpening}
 use Rattle.sot_formula.specs.declared.words.FormulaOpening.TheVariants as openings
 use Rattle.sot_formula.specs.declared.words.Word.{Word}
 use Rattle.sot_formula.specs.declared.words.Word.TheVariants as words
 use Rattle.sot_formula.specs.declared.finding.FoundQuantity.{FoundQuantity}
-use Rattle.sot_formula.specs.Phrases.{a_mode, a_name, a_field, Literal, a_number, a_negative, Phrase, a_truth, a_single, a_double, a_within, a_comparison}
+use Rattle.sot_formula.specs.Phrases.{a_mode, a_name, a_field, Literal, a_number, a_negative, Phrase, a_truth, a_single, a_double, a_row, a_within, a_comparison}
 use Rattle.sot_formula.specs.Phrases.{literal_spelled, spelled, IsWord, IsSingle, IsDouble, IsLiteral, IsComparing, AreTicks, IsPhrase, levels_of}
+use Rattle.sot_formula.specs.Phrases.{row_length, most_parts, HasParts, StandsIn}
 use Rattle.sot_formula.specs.Words.{comparing_of, opening_of, opening_from, word_of, single_what, double_what}
 use Rattle.sot_formula.specs.Finding.{plain_named, part_named, module_named}
 use Rattle.sot_formula.specs.Reading.{Laid, place, put, compared, Reader, name_token}
 use Rattle.sot_formula.specs.Reading.{any_token, found_or_stuck, comparing_at, comparison_at, ticks_of, are_ticks, ticks_at}
-use Rattle.sot_formula.specs.Reading.{single_at, double_at, within_at, mode_at, mode_compared_at}
+use Rattle.sot_formula.specs.Reading.{single_at, joined_at, more_at, row_at, double_at, within_at, mode_at, mode_compared_at}
 use Rattle.sot_formula.specs.Reading.{part_at, named_at, called_at, behind_name_at, opened_at, formula_at}
 use Rattle.sot_formula.proofs.Laying.{or_less, by_of, lit_of, laid, IsOpened, opening_tells, IsWordOf, word_tells, signed, compares}
 
@@ -106,6 +108,29 @@ ticks_sound ts x e =
       sym (ap (λ (z : ℕ × List Lexeme). z.0) is) ∙ ap ticks_of t.3,
     )
 
+-- a formula may stand where a row may, and is one of length 1
+may_join : (f : Phrase) (o : Double) → IsPhrase f → StandsIn f (Some o)
+may_join (a_truth value t) o is = is
+may_join (a_single q w begin f end) o is = is
+may_join (a_double q w begin row end) o is = is
+may_join (a_row q f comma g) o is = absurd is.0
+may_join (a_within w begin n comma f end) o is = is
+may_join (a_comparison r by z) o is = is
+
+alone_length : (f : Phrase) → IsPhrase f → row_length f ≡ 1
+alone_length (a_truth value t) is = refl
+alone_length (a_single q w begin f end) is = refl
+alone_length (a_double q w begin row end) is = refl
+alone_length (a_row q f comma g) is = absurd is.0
+alone_length (a_within w begin n comma f end) is = refl
+alone_length (a_comparison r by z) is = refl
+
+two_joined : (o : Double) → 2 ≤ most_parts o
+two_joined doubles.And = omega arith
+two_joined doubles.Or = omega arith
+two_joined doubles.Since = omega arith
+two_joined doubles.Implies = omega arith
+
 module _ (p : Tables) (r : ℕ) (inner : Reader) (only : OnlyPhrases p r inner) where
   abbrev IsSingleBy : Single → Laid → List Lexeme → Got → Type 0
   IsSingleBy o s ts x =
@@ -133,44 +158,91 @@ module _ (p : Tables) (r : ℕ) (inner : Reader) (only : OnlyPhrases p r inner) 
         sym (ap (λ (y : Got). y.0) is) ∙ ap (λ l. put (single_what o (place l)) l) f.4,
       )
 
+  -- a row, and one part more of it
+  abbrev IsJoinedBy : Double → Phrase → Laid → List Lexeme → Got → Type 0
+  IsJoinedBy o f s ts x =
+      (comma : Lexeme) × (g : Phrase) × StandsIn (a_row o f comma g) (Some o) × (ts ≡ comma ∷ spelled g x.1) × (levels_of (a_row o f comma g) ≤ r)
+      × (x.0 ≡ laid p (a_row o f comma g) s)
+
+  joined_sound : (o : Double) (f : Phrase) (s t : Laid) (ts : List Lexeme) (x : Got) → StandsIn f (Some o) → levels_of f ≤ r → t ≡ laid p f s
+      → joined_at o inner t ts ≡ Ok x → IsJoinedBy o f s ts x
+  unfolding joined_at
+  joined_sound o f s t ts x is low same e =
+      let m = bind_ok (expect (is_sign (codes ",")) ts) _ x e in
+      let comma = sign_taken (codes ",") ts m.0 m.1 in
+      let j = bind_ok (inner t m.0.1) _ x m.2 in
+      let g = only t m.0.1 j.0 j.1 in
+      let end = ok_is (put (double_what o (place t) (place j.0.0)) j.0.0, j.0.1) x j.2 in
+      let second : j.0.0 ≡ laid p g.0 (laid p f s) = g.4 ∙ ap (laid p g.0) same in
+      let few : levels_of (a_row o f comma.0 g.0) ≤ r = (let low' = g.3 in omega (arith, clamps, low, low')) in (
+        comma.0,
+        g.0,
+        (refl, is, comma.2, g.1),
+        comma.1 ∙ ap (λ vs. comma.0 ∷ vs) (g.2 ∙ ap (λ (y : Got). spelled g.0 y.1) end),
+        few,
+        sym (ap (λ (y : Got). y.0) end) ∙ ap₂ (λ k l. put (double_what o (place k) (place l)) l) same second,
+      )
+
+  -- a row that goes on
+  abbrev IsRowBy : Double → Phrase → ℕ → Laid → List Lexeme → Got → Type 0
+  IsRowBy o f count s ts x =
+      (h : Phrase) × StandsIn h (Some o) × (spelled f ts ≡ spelled h x.1) × (levels_of h ≤ r) × (row_length f ≤ row_length h)
+      × (row_length h ≤ row_length f + count) × (x.0 ≡ laid p h s)
+
+  more_sound : (o : Double) (count : ℕ) (f : Phrase) (s t : Laid) (ts : List Lexeme) (x : Got) → StandsIn f (Some o) → levels_of f ≤ r → t ≡ laid p f s
+      → more_at o inner count t ts ≡ Ok x → IsRowBy o f count s ts x
+  unfolding more_at
+  more_sound o zero f s t ts x is low same e =
+      let end = ok_is (t, ts) x e in
+      (f, is, ap (λ (y : Got). spelled f y.1) end, low, omega arith, omega arith, sym (ap (λ (y : Got). y.0) end) ∙ same)
+  more_sound o (suc count) f s t ts x is low same e =
+      chosen_by (begins (is_sign (codes ",")) ts) (joined_at o inner t ts >>= λ g. more_at o inner count g.0 g.1) (Ok (t, ts)) x _ e
+      (λ here read.
+      let j = bind_ok (joined_at o inner t ts) _ x read in
+      let g = joined_sound o f s t ts j.0 is low same j.1 in
+      let k = more_sound o count (a_row o f g.0 g.1) s j.0.0 j.0.1 x g.2 g.4 g.5 j.2 in
+      let less = k.4 in
+      let few = k.5 in
+      (k.0, k.1, ap (spelled f) g.3 ∙ k.2, k.3, omega (arith, less), omega (arith, few), k.6))
+      (λ other read.
+      let end = ok_is (t, ts) x read in
+      (f, is, ap (λ (y : Got). spelled f y.1) end, low, omega arith, omega arith, sym (ap (λ (y : Got). y.0) end) ∙ same))
+
   abbrev IsDoubleBy : Double → Laid → List Lexeme → Got → Type 0
   IsDoubleBy o s ts x =
-      (begin : Lexeme) × (f : Phrase) × (comma : Lexeme) × (g : Phrase) × (end : Lexeme)
-      × IsSign (codes "(") begin × IsPhrase f × IsSign (codes ",") comma × IsPhrase g × IsSign (codes ")") end
-      × (ts ≡ begin ∷ spelled f (comma ∷ spelled g (end ∷ x.1))) × (levels_of f ≤ r) × (levels_of g ≤ r)
-      × (x.0 ≡ put (double_what o (place (laid p f s)) (place (laid p g (laid p f s)))) (laid p g (laid p f s)))
+      (begin : Lexeme) × (row : Phrase) × (end : Lexeme) × IsSign (codes "(") begin × StandsIn row (Some o) × HasParts o row × IsSign (codes ")") end
+      × (ts ≡ begin ∷ spelled row (end ∷ x.1)) × (levels_of row ≤ r) × (x.0 ≡ laid p row s)
 
   double_sound : (o : Double) (s : Laid) (ts : List Lexeme) (x : Got) → double_at o inner s ts ≡ Ok x → IsDoubleBy o s ts x
-  unfolding double_at
+  unfolding double_at row_at
   double_sound o s ts x e =
       let b = bind_ok (expect (is_sign (codes "(")) ts) _ x e in
       let begin = sign_taken (codes "(") ts b.0 b.1 in
-      let i = bind_ok (inner s b.0.1) _ x b.2 in
+      let m = bind_ok (row_at o inner s b.0.1) _ x b.2 in
+      let i = bind_ok (inner s b.0.1) _ m.0 m.1 in
       let f = only s b.0.1 i.0 i.1 in
-      let m = bind_ok (expect (is_sign (codes ",")) i.0.1) _ x i.2 in
-      let comma = sign_taken (codes ",") i.0.1 m.0 m.1 in
-      let j = bind_ok (inner i.0.0 m.0.1) _ x m.2 in
-      let g = only i.0.0 m.0.1 j.0 j.1 in
-      let c = bind_ok (expect (is_sign (codes ")")) j.0.1) _ x j.2 in
-      let end = sign_taken (codes ")") j.0.1 c.0 c.1 in
-      let is = ok_is (put (double_what o (place i.0.0) (place j.0.0)) j.0.0, c.0.1) x c.2 in
-      let second : j.0.0 ≡ laid p g.0 (laid p f.0 s) = g.4 ∙ ap (laid p g.0) f.4 in (
+      let j = bind_ok (joined_at o inner i.0.0 i.0.1) _ m.0 i.2 in
+      let g = joined_sound o f.0 s i.0.0 i.0.1 j.0 (may_join f.0 o f.1) f.3 f.4 j.1 in
+      let row = more_sound o (most_parts o - 2) (a_row o f.0 g.0 g.1) s j.0.0 j.0.1 m.0 g.2 g.4 g.5 j.2 in
+      let c = bind_ok (expect (is_sign (codes ")")) m.0.1) _ x m.2 in
+      let end = sign_taken (codes ")") m.0.1 c.0 c.1 in
+      let is = ok_is (m.0.0, c.0.1) x c.2 in
+      let one = alone_length f.0 f.1 in
+      let least = row.4 in
+      let most = row.5 in
+      let two = two_joined o in (
         begin.0,
-        f.0,
-        comma.0,
-        g.0,
+        row.0,
         end.0,
         begin.2,
-        f.1,
-        comma.2,
-        g.1,
+        row.1,
+        (omega (arith, one, least), omega (arith, one, most, two)),
         end.2,
         begin.1
             ∙ ap (λ vs. begin.0 ∷ vs)
-            (f.2 ∙ ap (spelled f.0) (comma.1 ∙ ap (λ vs. comma.0 ∷ vs) (g.2 ∙ ap (spelled g.0) (end.1 ∙ ap (λ (y : Got). end.0 ∷ y.1) is)))),
-        f.3,
-        g.3,
-        sym (ap (λ (y : Got). y.0) is) ∙ ap₂ (λ k l. put (double_what o (place k) (place l)) l) f.4 second,
+            (f.2 ∙ ap (spelled f.0) g.3 ∙ row.2 ∙ ap (spelled row.0) (end.1 ∙ ap (λ (y : Got). end.0 ∷ y.1) is)),
+        row.3,
+        sym (ap (λ (y : Got). y.0) is) ∙ row.6,
       )
 
   abbrev IsWithinBy : Laid → List Lexeme → Got → Type 0
@@ -267,15 +339,13 @@ module _ (p : Tables) (r : ℕ) (inner : Reader) (only : OnlyPhrases p r inner) 
       → IsLaidBy p (suc r) s (w ∷ ts) x
   double_phrase o w s ts x is e =
       let h = double_sound o s ts x e in
-      (a_double o w h.0 h.1 h.2 h.3 h.4, (is, h.5, h.6, h.7, h.8, h.9), ap (λ vs. w ∷ vs) h.10, omega (arith, clamps, h.11, h.12), h.13)
+      (a_double o w h.0 h.1 h.2, (is, h.3, h.4, h.5, h.6), ap (λ vs. w ∷ vs) h.7, omega (arith, h.8), h.9)
 
   called_sound : (word : Word) (w : Lexeme) (s : Laid) (ts : List Lexeme) (x : Got) → IsName w → IsWordOf w.text word → called_at p inner word s ts ≡ Ok x
       → IsLaidBy p (suc r) s (w ∷ ts) x
   unfolding called_at
-  called_sound (words.Single o) w s ts x name is e =
-      single_phrase o w s ts x (subst (λ q. IsSingle q w) (sym is.0) (record { name = name; text_is = is.1 })) e
-  called_sound (words.Double o) w s ts x name is e =
-      double_phrase o w s ts x (subst (λ q. IsDouble q w) (sym is.0) (record { name = name; text_is = is.1 })) e
+  called_sound (words.Single o) w s ts x name is e = single_phrase o w s ts x (is w name refl) e
+  called_sound (words.Double o) w s ts x name is e = double_phrase o w s ts x (is w name refl) e
   called_sound words.Within w s ts x name is e =
       let h = within_sound s ts x e in
       (a_within w h.0 h.1 h.2 h.3 h.4, (record { name = name; text_is = is }, h.5, h.6, h.7, h.8, h.9), ap (λ vs. w ∷ vs) h.10, omega (arith, h.11), h.12)

@@ -98,7 +98,7 @@ module _ (p : Tables) (rules : MeetsTableRules p) (bytes : List ℕ) (short : le
   judged_reads s ws read known same is =
       let t = text_read p bytes s short read in
       let f = t.0 in
-      let m = meant p rules f none_laid t.1.phrase (ap (λ (x : Laid). x.unknown) (sym t.2) ∙ known) (ap (λ (x : Laid). x.differs) (sym t.2) ∙ same) in
+      let m = meant p rules f None none_laid t.1.phrase (ap (λ (x : Laid). x.unknown) (sym t.2) ∙ known) (ap (λ (x : Laid). x.differs) (sym t.2) ∙ same) in
       let whole = is ∙ ap (λ (x : Laid). x.whats) t.2 in
       let long = ap length whole in
       record {
@@ -108,7 +108,7 @@ module _ (p : Tables) (rules : MeetsTableRules p) (bytes : List ℕ) (short : le
         means = m.means;
         whole = subst (λ (vs : List What). IsPart vs (length vs - 1) m.formula) (sym whole) m.part;
         count = omega (arith, long, m.count);
-        placed = subst ArePlaced (sym whole) (placed p rules f none_laid t.1.phrase none_placed);
+        placed = subst ArePlaced (sym whole) (placed p rules f None none_laid t.1.phrase none_placed);
         there = subst (AreThere p) (sym whole) (there p rules f none_laid none_there);
       }
 

@@ -8,7 +8,11 @@ pub data Formula : Type 0 where
   Compared : (of : Quantity) (by : Comparison) (number : ℤ) → Formula
   Not : (f : Formula) → Formula
   And Or : (f g : Formula) → Formula
+  -- g, if f
+  Implies : (f g : Formula) → Formula
   Once : (f : Formula) → Formula
+  -- f held at each moment so far
+  Always : (f : Formula) → Formula
   -- g held at some time, and f ever after
   Since : (f g : Formula) → Formula
   -- f held at most so many ticks ago

@@ -17,10 +17,11 @@ use Rattle.sot_formula.specs.declared.quantity.Comparison.{Comparison}
 use Rattle.sot_formula.specs.declared.quantity.Comparison.TheVariants as comparisons
 use Rattle.sot_formula.specs.declared.words.Single.TheVariants as singles
 use Rattle.sot_formula.specs.declared.words.Double.TheVariants as doubles
-use Rattle.sot_formula.specs.Formulas.{Formula, Truth, Compared, Not, And, Or, Once, Since, Within}
+use Rattle.sot_formula.specs.Formulas.{Formula, Truth, Compared, Not, And, Or, Implies, Once}
+use Rattle.sot_formula.specs.Formulas.{Always, Since, Within}
 use Rattle.sot_formula.specs.Phrases.{Reference, a_mode, a_name, a_field, Literal, a_number}
-use Rattle.sot_formula.specs.Phrases.{a_negative, Phrase, a_truth, a_single, a_double, a_within}
-use Rattle.sot_formula.specs.Phrases.{a_comparison}
+use Rattle.sot_formula.specs.Phrases.{a_negative, Phrase, a_truth, a_single, a_double, a_row}
+use Rattle.sot_formula.specs.Phrases.{a_within, a_comparison}
 
 -- the scale of a scalar; a truth value has 0
 abbrev pub scale_of : ScalarInfo → ℕ
@@ -99,17 +100,22 @@ IsCompared p r by z x =
     (q : Quantity) × (c : Comparison) × Names p r q (decimals z) × IsSign (sign_text c) by
     × (x ≡ Compared q c (mantissa z))
 
--- a formula's text means this formula
+-- a formula's text means this formula; a row is joined from the left
 abbrev pub Means : Tables → Phrase → Formula → Type 0
 Means p (a_truth value t) x = x ≡ Truth value
 Means p (a_single singles.Not w begin f end) x = (y : Formula) × Means p f y × (x ≡ Not y)
 Means p (a_single singles.Once w begin f end) x = (y : Formula) × Means p f y × (x ≡ Once y)
-Means p (a_double doubles.And w begin f comma g end) x =
+Means p (a_single singles.Always w begin f end) x =
+    (y : Formula) × Means p f y × (x ≡ Always y)
+Means p (a_double o w begin row end) x = Means p row x
+Means p (a_row doubles.And f comma g) x =
     (y z : Formula) × Means p f y × Means p g z × (x ≡ And y z)
-Means p (a_double doubles.Or w begin f comma g end) x =
+Means p (a_row doubles.Or f comma g) x =
     (y z : Formula) × Means p f y × Means p g z × (x ≡ Or y z)
-Means p (a_double doubles.Since w begin f comma g end) x =
+Means p (a_row doubles.Since f comma g) x =
     (y z : Formula) × Means p f y × Means p g z × (x ≡ Since y z)
+Means p (a_row doubles.Implies f comma g) x =
+    (y z : Formula) × Means p f y × Means p g z × (x ≡ Implies y z)
 Means p (a_within w begin n comma f end) x =
     (y : Formula) × Means p f y × (x ≡ Within (mantissa_of n.text) y)
 Means p (a_comparison r by z) x = IsCompared p r by z x
@@ -118,7 +124,8 @@ Means p (a_comparison r by z) x = IsCompared p r by z x
 abbrev pub HasComparison : (Reference → Literal → Type 0) → Phrase → Type 0
 HasComparison Of (a_truth value t) = ⊥
 HasComparison Of (a_single o w begin f end) = HasComparison Of f
-HasComparison Of (a_double o w begin f comma g end) = HasComparison Of f ⊎ HasComparison Of g
+HasComparison Of (a_double o w begin row end) = HasComparison Of row
+HasComparison Of (a_row o f comma g) = HasComparison Of f ⊎ HasComparison Of g
 HasComparison Of (a_within w begin n comma f end) = HasComparison Of f
 HasComparison Of (a_comparison r by z) = Of r z
 

@@ -7,7 +7,8 @@ use Rattle.sot_formula.specs.declared.quantity.Quantity.{Quantity}
 use Rattle.sot_formula.specs.declared.quantity.Quantity.TheVariants as quantities
 use Rattle.sot_formula.specs.declared.what.What.{What}
 use Rattle.sot_formula.specs.declared.what.What.TheVariants as whats
-use Rattle.sot_formula.specs.Formulas.{Formula, Truth, Compared, Not, And, Or, Once, Since, Within}
+use Rattle.sot_formula.specs.Formulas.{Formula, Truth, Compared, Not, And, Or, Implies, Once}
+use Rattle.sot_formula.specs.Formulas.{Always, Since, Within}
 
 -- the part at place i is this formula, by parts that stand before it
 abbrev pub IsPart : List What → ℕ → Formula → Type 0
@@ -18,7 +19,10 @@ IsPart ws i (And f g) =
     (k n : ℕ) × At ws i (whats.And k n) × (k < i) × (n < i) × IsPart ws k f × IsPart ws n g
 IsPart ws i (Or f g) =
     (k n : ℕ) × At ws i (whats.Or k n) × (k < i) × (n < i) × IsPart ws k f × IsPart ws n g
+IsPart ws i (Implies f g) =
+    (k n : ℕ) × At ws i (whats.Implies k n) × (k < i) × (n < i) × IsPart ws k f × IsPart ws n g
 IsPart ws i (Once f) = (k : ℕ) × At ws i (whats.Once k) × (k < i) × IsPart ws k f
+IsPart ws i (Always f) = (k : ℕ) × At ws i (whats.Always k) × (k < i) × IsPart ws k f
 IsPart ws i (Since f g) =
     (k n : ℕ) × At ws i (whats.Since k n) × (k < i) × (n < i) × IsPart ws k f × IsPart ws n g
 IsPart ws i (Within ticks f) = (k : ℕ) × At ws i (whats.Within ticks k) × (k < i) × IsPart ws k f
@@ -30,7 +34,9 @@ part_count (Compared of by number) = 1
 part_count (Not f) = 1 + part_count f
 part_count (And f g) = 1 + (part_count f + part_count g)
 part_count (Or f g) = 1 + (part_count f + part_count g)
+part_count (Implies f g) = 1 + (part_count f + part_count g)
 part_count (Once f) = 1 + part_count f
+part_count (Always f) = 1 + part_count f
 part_count (Since f g) = 1 + (part_count f + part_count g)
 part_count (Within ticks f) = 1 + part_count f
 
@@ -42,7 +48,9 @@ IsPlaced i (whats.Compared of by number) = Unit {0}
 IsPlaced i (whats.Not k) = k < i
 IsPlaced i (whats.And k n) = (k < i) × (n < i)
 IsPlaced i (whats.Or k n) = (k < i) × (n < i)
+IsPlaced i (whats.Implies k n) = (k < i) × (n < i)
 IsPlaced i (whats.Once k) = k < i
+IsPlaced i (whats.Always k) = k < i
 IsPlaced i (whats.Since k n) = (k < i) × (n < i)
 IsPlaced i (whats.Within ticks k) = (k < i) × (ticks ≤ 100000)
 

@@ -1,6 +1,6 @@
 -- The grammar of formulas: what the tokens of a formula are, one case for each production.
 use Rattle.std.specs.Prelude.{ℕ, ◌+◌, max, ◌≡◌, ◌≤◌, ◌⊎◌, List, [], ◌∷◌, Bool, true, false, codes}
-use Rattle.std.specs.Prelude.{length}
+use Rattle.std.specs.Prelude.{length, Option, None, Some}
 use Rattle.sot_text.specs.Lexeme.{mantissa_of, decimals_of}
 use Rattle.sot_text.specs.Reading.{Lexeme, AllLexes}
 use Rattle.sot_expression.specs.Lexemes.{IsKeyword, IsSign, IsName, IsNumber}
@@ -23,11 +23,12 @@ pub data Literal : Type 0 where
 pub data Phrase : Type 0 where
   -- "true", "false"
   a_truth : (value : Bool) (t : Lexeme) → Phrase
-  -- "not" "(" mon ")", "once" "(" mon ")"
+  -- "not" "(" mon ")", "once" "(" mon ")", "always" "(" mon ")"
   a_single : (o : Single) (w begin : Lexeme) (f : Phrase) (end : Lexeme) → Phrase
-  -- "and" "(" mon "," mon ")", "or", "since"
-  a_double : (o : Double) (w begin : Lexeme) (f : Phrase) (comma : Lexeme) (g : Phrase)
-      (end : Lexeme) → Phrase
+  -- "and" "(" row ")", "or", "since", "implies"
+  a_double : (o : Double) (w begin : Lexeme) (row : Phrase) (end : Lexeme) → Phrase
+  -- mon "," mon, row "," mon: no formula alone
+  a_row : (o : Double) (f : Phrase) (comma : Lexeme) (g : Phrase) → Phrase
   -- "within" "(" NUMBER "," mon ")"
   a_within : (w begin n comma : Lexeme) (f : Phrase) (end : Lexeme) → Phrase
   -- ref ("<" | "<=" | ">" | ">=" | "==" | "!=") lit
@@ -46,8 +47,8 @@ literal_spelled (a_negative minus n) ts = minus ∷ n ∷ ts
 abbrev pub spelled : Phrase → List Lexeme → List Lexeme
 spelled (a_truth value t) ts = t ∷ ts
 spelled (a_single o w begin f end) ts = w ∷ begin ∷ spelled f (end ∷ ts)
-spelled (a_double o w begin f comma g end) ts =
-    w ∷ begin ∷ spelled f (comma ∷ spelled g (end ∷ ts))
+spelled (a_double o w begin row end) ts = w ∷ begin ∷ spelled row (end ∷ ts)
+spelled (a_row o f comma g) ts = spelled f (comma ∷ spelled g ts)
 spelled (a_within w begin n comma f end) ts = w ∷ begin ∷ n ∷ comma ∷ spelled f (end ∷ ts)
 spelled (a_comparison r by z) ts = reference_spelled r (by ∷ literal_spelled z ts)
 
@@ -59,11 +60,13 @@ pub record IsWord (text : List ℕ) (t : Lexeme) : Type 0 where
 abbrev pub IsSingle : Single → Lexeme → Type 0
 IsSingle singles.Not t = IsKeyword (codes "not") t
 IsSingle singles.Once t = IsWord (codes "once") t
+IsSingle singles.Always t = IsWord (codes "always") t
 
 abbrev pub IsDouble : Double → Lexeme → Type 0
 IsDouble doubles.And t = IsKeyword (codes "and") t
 IsDouble doubles.Or t = IsKeyword (codes "or") t
 IsDouble doubles.Since t = IsWord (codes "since") t
+IsDouble doubles.Implies t = IsWord (codes "implies") t
 
 abbrev pub IsTruth : Bool → Lexeme → Type 0
 IsTruth true t = IsKeyword (codes "true") t
@@ -90,23 +93,54 @@ pub record AreTicks (n : Lexeme) : Type 0 where
   pub whole : decimals_of n.text ≡ 0
   pub few : mantissa_of n.text ≤ 100000
 
-abbrev pub IsPhrase : Phrase → Type 0
-IsPhrase (a_truth value t) = IsTruth value t
-IsPhrase (a_single o w begin f end) =
-    IsSingle o w × IsSign (codes "(") begin × IsPhrase f × IsSign (codes ")") end
-IsPhrase (a_double o w begin f comma g end) =
-    IsDouble o w × IsSign (codes "(") begin × IsPhrase f × IsSign (codes ",") comma × IsPhrase g
+-- how many formulas stand in a row
+abbrev pub row_length : Phrase → ℕ
+row_length (a_truth value t) = 1
+row_length (a_single o w begin f end) = 1
+row_length (a_double o w begin row end) = 1
+row_length (a_row o f comma g) = row_length f + 1
+row_length (a_within w begin n comma f end) = 1
+row_length (a_comparison r by z) = 1
+
+-- how many a word joins at most; at least it joins two
+abbrev pub most_parts : Double → ℕ
+most_parts doubles.And = 64
+most_parts doubles.Or = 64
+most_parts doubles.Since = 2
+most_parts doubles.Implies = 2
+
+abbrev pub HasParts : Double → Phrase → Type 0
+HasParts o row = (2 ≤ row_length row) × (row_length row ≤ most_parts o)
+
+-- a row stands in the parentheses of its word alone
+abbrev pub IsRowIn : Option Double → Double → Type 0
+IsRowIn None o = ⊥
+IsRowIn (Some word) o = o ≡ word
+
+-- a formula, or a row of the word in whose parentheses it stands
+abbrev pub StandsIn : Phrase → Option Double → Type 0
+StandsIn (a_truth value t) word = IsTruth value t
+StandsIn (a_single o w begin f end) word =
+    IsSingle o w × IsSign (codes "(") begin × StandsIn f None × IsSign (codes ")") end
+StandsIn (a_double o w begin row end) word =
+    IsDouble o w × IsSign (codes "(") begin × StandsIn row (Some o) × HasParts o row
     × IsSign (codes ")") end
-IsPhrase (a_within w begin n comma f end) =
+StandsIn (a_row o f comma g) word =
+    IsRowIn word o × StandsIn f word × IsSign (codes ",") comma × StandsIn g None
+StandsIn (a_within w begin n comma f end) word =
     IsWord (codes "within") w × IsSign (codes "(") begin × AreTicks n × IsSign (codes ",") comma
-    × IsPhrase f × IsSign (codes ")") end
-IsPhrase (a_comparison r by z) = IsReference r × IsComparing by × IsLiteral z
+    × StandsIn f None × IsSign (codes ")") end
+StandsIn (a_comparison r by z) word = IsReference r × IsComparing by × IsLiteral z
+
+abbrev pub IsPhrase : Phrase → Type 0
+IsPhrase f = StandsIn f None
 
 -- how deep it nests: a comparison and a truth value are one level
 abbrev pub levels_of : Phrase → ℕ
 levels_of (a_truth value t) = 1
 levels_of (a_single o w begin f end) = 1 + levels_of f
-levels_of (a_double o w begin f comma g end) = 1 + max (levels_of f) (levels_of g)
+levels_of (a_double o w begin row end) = 1 + levels_of row
+levels_of (a_row o f comma g) = max (levels_of f) (levels_of g)
 levels_of (a_within w begin n comma f end) = 1 + levels_of f
 levels_of (a_comparison r by z) = 1
 

@@ -20,6 +20,7 @@ use Rattle.sot_formula.specs.declared.words.FormulaOpening.TheVariants as openin
 use Rattle.sot_formula.specs.declared.words.Word.{Word}
 use Rattle.sot_formula.specs.declared.words.Word.TheVariants as words
 use Rattle.sot_formula.specs.declared.finding.FoundQuantity.{FoundQuantity}
+use Rattle.sot_formula.specs.Phrases.{most_parts}
 use Rattle.sot_formula.specs.Words.{comparing_from, opening_from, word_of, single_what, double_what}
 use Rattle.sot_formula.specs.Finding.{plain_named, part_named, module_named}
 
@@ -101,15 +102,35 @@ single_at o inner s ts = do
   end ← expect (is_sign (codes ")")) f.1
   Ok (put (single_what o (place f.0)) f.0, end.1)
 
--- two parts
+-- a comma and a part, joined with the last one
+unfoldable pub joined_at : Double → Reader → Reader
+joined_at o inner s ts = do
+  comma ← expect (is_sign (codes ",")) ts
+  g ← inner s comma.1
+  Ok (put (double_what o (place s) (place g.0)) g.0, g.1)
+
+-- at most so many parts more
+unfoldable pub more_at : Double → Reader → ℕ → Reader
+more_at o inner zero s ts = Ok (s, ts)
+more_at o inner (suc count) s ts =
+    if begins (is_sign (codes ",")) ts
+    then (joined_at o inner s ts >>= λ g. more_at o inner count g.0 g.1)
+    else Ok (s, ts)
+
+-- two parts at least
+unfoldable pub row_at : Double → Reader → Reader
+row_at o inner s ts = do
+  f ← inner s ts
+  g ← joined_at o inner f.0 f.1
+  more_at o inner (most_parts o - 2) g.0 g.1
+
+-- a row in parentheses
 unfoldable pub double_at : Double → Reader → Reader
 double_at o inner s ts = do
   begin ← expect (is_sign (codes "(")) ts
-  f ← inner s begin.1
-  comma ← expect (is_sign (codes ",")) f.1
-  g ← inner f.0 comma.1
-  end ← expect (is_sign (codes ")")) g.1
-  Ok (put (double_what o (place f.0) (place g.0)) g.0, end.1)
+  row ← row_at o inner s begin.1
+  end ← expect (is_sign (codes ")")) row.1
+  Ok (row.0, end.1)
 
 -- ticks and a part
 unfoldable pub within_at : Reader → Reader

@@ -48,7 +48,9 @@ opening_from (Some t) = opening_of t
 abbrev pub word_of : List ℕ → Word
 word_of name = first_case words.Other (
     (bytes_eq name (codes "once"), words.Single singles.Once)
+    ∷ (bytes_eq name (codes "always"), words.Single singles.Always)
     ∷ (bytes_eq name (codes "since"), words.Double doubles.Since)
+    ∷ (bytes_eq name (codes "implies"), words.Double doubles.Implies)
     ∷ (bytes_eq name (codes "within"), words.Within)
     ∷ (bytes_eq name (codes "mode"), words.Mode)
     ∷ [])
@@ -57,8 +59,10 @@ word_of name = first_case words.Other (
 abbrev pub single_what : Single → ℕ → What
 single_what singles.Not place = whats.Not place
 single_what singles.Once place = whats.Once place
+single_what singles.Always place = whats.Always place
 
 abbrev pub double_what : Double → ℕ → ℕ → What
 double_what doubles.And first second = whats.And first second
 double_what doubles.Or first second = whats.Or first second
 double_what doubles.Since first second = whats.Since first second
+double_what doubles.Implies first second = whats.Implies first second

@@ -1,10 +1,11 @@
 //! A formula from its tokens: a function for each production.
 
-ghost use Rattle.std.specs.Prelude.{◌≡◌, ◌-◌, ◌≤◌};
+ghost use Rattle.std.specs.Prelude.{◌≡◌, ◌-◌, ◌≤◌, suc};
 ghost use Rattle.sot_text.specs.Reading.{lexeme};
 ghost use Rattle.sot_expression.specs.Returned.{Gives};
 ghost use Rattle.sot_formula.specs.Reading.{name_token, any_token, comparing_at, comparison_at};
 ghost use Rattle.sot_formula.specs.Reading.{are_ticks, ticks_of, ticks_at, single_at, double_at};
+ghost use Rattle.sot_formula.specs.Reading.{joined_at, more_at, row_at};
 ghost use Rattle.sot_formula.specs.Reading.{within_at, mode_at, mode_compared_at, part_at};
 ghost use Rattle.sot_formula.specs.Reading.{named_at, called_at, behind_name_at, opened_at};
 ghost use Rattle.sot_formula.specs.Reading.{formula_at};
@@ -14,8 +15,8 @@ use crate::laid::{Laid, compared, put};
 use crate::quantity::Comparison;
 use crate::what::What;
 use crate::words::{
-    Double, FormulaOpening, Single, Word, comparing, double_what, next_opening, single_what,
-    word_of,
+    Double, FormulaOpening, Single, Word, comparing, double_what, further_parts, next_opening,
+    single_what, word_of,
 };
 use sot_expression::{Fail, Tokens, expect_sign, is_sign, literal, number};
 use sot_lang::Typed;
@@ -162,7 +163,89 @@ fn single(
     Ok(more)
 }
 
-// Two parts in parentheses.
+// A comma and a part, joined with the last one.
+#[cycle(formula)]
+#[tactic(auto, unfolding(crate::specs::Reading::joined_at))]
+fn joined(
+    p: &Typed,
+    tokens: &mut Tokens<'_>,
+    laid: Laid,
+    room: u32,
+    word: Double,
+) -> Result<Laid, Fail>
+    ensures { Gives (λ s. s) result tokens.old tokens.new
+        (joined_at word (formula_at p.now room) laid tokens.old.tokens) }
+{
+    let place = laid.place();
+    expect_sign(tokens, b",")?;
+    let second = formula(p, tokens, laid, room)?;
+    let what = double_what(word, place, second.place());
+    let both = put(second, what)?;
+    Ok(both)
+}
+
+// A comma and a part if they come, and at most so many behind them.
+#[cycle(formula)]
+#[tactic(auto, unfolding(crate::specs::Reading::more_at))]
+fn one_more(
+    p: &Typed,
+    tokens: &mut Tokens<'_>,
+    laid: Laid,
+    room: u32,
+    word: Double,
+    behind: u32,
+) -> Result<Laid, Fail>
+    requires few { behind ≤ 61 }
+    ensures { Gives (λ s. s) result tokens.old tokens.new
+        (more_at word (formula_at p.now room) (suc behind) laid tokens.old.tokens) }
+{
+    if is_sign(tokens, b",") {
+        let both = joined(p, tokens, laid, room, word)?;
+        more(p, tokens, both, room, word, behind)
+    } else {
+        Ok(laid)
+    }
+}
+
+// At most so many parts more.
+#[cycle(formula)]
+fn more(
+    p: &Typed,
+    tokens: &mut Tokens<'_>,
+    laid: Laid,
+    room: u32,
+    word: Double,
+    count: u32,
+) -> Result<Laid, Fail>
+    requires few { count ≤ 62 }
+    ensures { Gives (λ s. s) result tokens.old tokens.new
+        (more_at word (formula_at p.now room) count laid tokens.old.tokens) }
+{
+    if count == 0 {
+        return Ok(laid);
+    }
+    one_more(p, tokens, laid, room, word, count - 1)
+}
+
+// Two parts at least.
+#[cycle(formula)]
+#[tactic(auto, unfolding(crate::specs::Reading::row_at))]
+fn row(
+    p: &Typed,
+    tokens: &mut Tokens<'_>,
+    laid: Laid,
+    room: u32,
+    word: Double,
+) -> Result<Laid, Fail>
+    ensures { Gives (λ s. s) result tokens.old tokens.new
+        (row_at word (formula_at p.now room) laid tokens.old.tokens) }
+{
+    let first = formula(p, tokens, laid, room)?;
+    let both = joined(p, tokens, first, room, word)?;
+    more(p, tokens, both, room, word, further_parts(word))
+}
+
+// A row in parentheses.
 #[cycle(formula)]
 #[tactic(auto, unfolding(crate::specs::Reading::double_at))]
 fn double(
@@ -176,14 +259,9 @@ fn double(
         (double_at word (formula_at p.now room) laid tokens.old.tokens) }
 {
     expect_sign(tokens, b"(")?;
-    let first = formula(p, tokens, laid, room)?;
-    let place = first.place();
-    expect_sign(tokens, b",")?;
-    let second = formula(p, tokens, first, room)?;
+    let all = row(p, tokens, laid, room, word)?;
     expect_sign(tokens, b")")?;
-    let what = double_what(word, place, second.place());
-    let more = put(second, what)?;
-    Ok(more)
+    Ok(all)
 }
 
 // Ticks and a part in parentheses.

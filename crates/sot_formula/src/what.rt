@@ -21,8 +21,15 @@ pub enum What {
         first: usize,
         second: usize,
     },
+    /// The second holds, or the first does not.
+    Implies {
+        first: usize,
+        second: usize,
+    },
     /// It held at some moment so far.
     Once(usize),
+    /// It held at each moment so far.
+    Always(usize),
     /// The second held at some moment so far, and the first at each moment since.
     Since {
         first: usize,

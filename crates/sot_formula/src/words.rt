@@ -1,8 +1,9 @@
 //! The words of formulas.
 
-ghost use Rattle.std.specs.Prelude.{◌≡◌};
+ghost use Rattle.std.specs.Prelude.{◌≡◌, ◌≤◌, ◌-◌};
 ghost use Rattle.std.specs.Str.{bytes_eq};
 ghost use Rattle.sot_text.specs.Reading.{lexeme};
+ghost use Rattle.sot_formula.specs.Phrases.{most_parts};
 ghost use Rattle.sot_formula.specs.Words.{comparing_of, comparing_from, opening_of, opening_from};
 ghost use Rattle.sot_formula.specs.Words.{word_of, single_what, double_what};
 ghost use Rattle.sot_expression.specs.Stream.{first_of};
@@ -17,14 +18,16 @@ use sot_text::{Kind, Token};
 pub enum Single {
     Not,
     Once,
+    Always,
 }
 
-/// What has two.
+/// What has two, or a row of them.
 #[derive(Clone, Copy)]
 pub enum Double {
     And,
     Or,
     Since,
+    Implies,
 }
 
 /// What a formula begins with.
@@ -116,8 +119,12 @@ pub fn word_of(name: &[u8]) -> Word
 {
     if is_same(name, b"once") {
         Word::Single(Single::Once)
+    } else if is_same(name, b"always") {
+        Word::Single(Single::Always)
     } else if is_same(name, b"since") {
         Word::Double(Double::Since)
+    } else if is_same(name, b"implies") {
+        Word::Double(Double::Implies)
     } else if is_same(name, b"within") {
         Word::Within
     } else if is_same(name, b"mode") {
@@ -134,6 +141,7 @@ pub fn single_what(word: Single, place: usize) -> What
     match word {
         Single::Not => What::Not(place),
         Single::Once => What::Once(place),
+        Single::Always => What::Always(place),
     }
 }
 
@@ -145,5 +153,17 @@ pub fn double_what(word: Double, first: usize, second: usize) -> What
         Double::And => What::And { first, second },
         Double::Or => What::Or { first, second },
         Double::Since => What::Since { first, second },
+        Double::Implies => What::Implies { first, second },
+    }
+}
+
+/// How many parts may stand behind the first two.
+pub fn further_parts(word: Double) -> u32
+    ensures is { result ≡ most_parts word - 2 }
+    ensures few { result ≤ 62 }
+{
+    match word {
+        Double::And | Double::Or => 62,
+        Double::Since | Double::Implies => 0,
     }
 }

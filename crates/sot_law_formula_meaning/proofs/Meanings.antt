@@ -1,5 +1,5 @@
 -- A text means one formula, since all that it can be read as leaves the same parts.
-use Rattle.std.proofs.Common.{◌≡◌, ◌∙◌, ℕ, List, [], false, Some, ⊎_elim, sym, ap, ap₂, subst}
+use Rattle.std.proofs.Common.{◌≡◌, ◌∙◌, ℕ, List, [], false, Some, None, ⊎_elim, sym, ap, ap₂, subst}
 use Rattle.std.proofs.lemmas.Bool.{cases_Bool, false≢true}
 use Rattle.std.proofs.lemmas.Option.{same_Some}
 use Rattle.sot_text.specs.Lexeme.{mantissa_of}
@@ -13,8 +13,8 @@ use Rattle.sot_formula.specs.declared.quantity.Comparison.{Comparison}
 use Rattle.sot_formula.specs.declared.words.Single.TheVariants as singles
 use Rattle.sot_formula.specs.declared.words.Double.TheVariants as doubles
 use Rattle.sot_formula.specs.declared.finding.FoundQuantity.{FoundQuantity}
-use Rattle.sot_formula.specs.Formulas.{Formula, Compared, Not, And, Or, Once, Since, Within}
-use Rattle.sot_formula.specs.Phrases.{Reference, Phrase, a_truth, a_single, a_double, a_within, a_comparison, IsFormulaText}
+use Rattle.sot_formula.specs.Formulas.{Formula, Compared, Not, And, Or, Implies, Once, Always, Since, Within}
+use Rattle.sot_formula.specs.Phrases.{Reference, Phrase, a_truth, a_single, a_double, a_row, a_within, a_comparison, IsFormulaText}
 use Rattle.sot_formula.specs.Meanings.{Names, sign_text, mantissa, Means}
 use Rattle.sot_formula.specs.Parts.{IsPart}
 use Rattle.sot_formula.specs.Reading.{Laid, none_laid, place}
@@ -43,12 +43,16 @@ module _ (p : Tables) (rules : MeetsTableRules p) where
   phrase_once (a_truth value t) x y a b = a ∙ sym b
   phrase_once (a_single singles.Not w begin f end) x y (u, m, is) (v, n, is') = is ∙ ap Not (phrase_once f u v m n) ∙ sym is'
   phrase_once (a_single singles.Once w begin f end) x y (u, m, is) (v, n, is') = is ∙ ap Once (phrase_once f u v m n) ∙ sym is'
-  phrase_once (a_double doubles.And w begin f comma g end) x y (u, u', m, m', is) (v, v', n, n', is') =
+  phrase_once (a_single singles.Always w begin f end) x y (u, m, is) (v, n, is') = is ∙ ap Always (phrase_once f u v m n) ∙ sym is'
+  phrase_once (a_double o w begin row end) x y a b = phrase_once row x y a b
+  phrase_once (a_row doubles.And f comma g) x y (u, u', m, m', is) (v, v', n, n', is') =
       is ∙ ap₂ And (phrase_once f u v m n) (phrase_once g u' v' m' n') ∙ sym is'
-  phrase_once (a_double doubles.Or w begin f comma g end) x y (u, u', m, m', is) (v, v', n, n', is') =
+  phrase_once (a_row doubles.Or f comma g) x y (u, u', m, m', is) (v, v', n, n', is') =
       is ∙ ap₂ Or (phrase_once f u v m n) (phrase_once g u' v' m' n') ∙ sym is'
-  phrase_once (a_double doubles.Since w begin f comma g end) x y (u, u', m, m', is) (v, v', n, n', is') =
+  phrase_once (a_row doubles.Since f comma g) x y (u, u', m, m', is) (v, v', n, n', is') =
       is ∙ ap₂ Since (phrase_once f u v m n) (phrase_once g u' v' m' n') ∙ sym is'
+  phrase_once (a_row doubles.Implies f comma g) x y (u, u', m, m', is) (v, v', n, n', is') =
+      is ∙ ap₂ Implies (phrase_once f u v m n) (phrase_once g u' v' m' n') ∙ sym is'
   phrase_once (a_within w begin n comma f end) x y (u, m, is) (v, k, is') = is ∙ ap (Within (mantissa_of n.text)) (phrase_once f u v m k) ∙ sym is'
   phrase_once (a_comparison r by z) x y (q, c, names, sign, is) (k, d, names', sign', is') =
       is ∙ ap₂ (λ (a : Quantity) (b : Comparison). Compared a b (mantissa z)) (named_once r q k _ names names') (sign_once c d by sign sign') ∙ sym is'
@@ -63,7 +67,7 @@ module _ (p : Tables) (rules : MeetsTableRules p) where
       let same : (laid p f none_laid).differs ≡ false = ⊎_elim
       (λ yes'. absurd (⊎_elim (λ no'. false≢true no') (means_same p rules f x means) (differs_set p rules f none_laid yes'))) (λ no'. no')
       (cases_Bool (laid p f none_laid).differs) in
-      let m = meant p rules f none_laid text.phrase known same in
+      let m = meant p rules f None none_laid text.phrase known same in
       subst (λ (y : Formula). IsPart (laid p f none_laid).whats (place (laid p f none_laid)) y) (phrase_once f m.formula x m.means means) m.part
 
 -- two readings of a text leave the same parts

@@ -4,7 +4,7 @@ use Rattle.sot_lists.specs.Places.{At}
 use Rattle.sot_lists.proofs.Places.{at_same}
 use Rattle.sot_formula.specs.declared.what.What.{What}
 use Rattle.sot_formula.specs.declared.what.What.TheVariants as whats
-use Rattle.sot_formula.specs.Formulas.{Formula, Truth, Compared, Not, And, Or, Once, Since, Within}
+use Rattle.sot_formula.specs.Formulas.{Formula, Truth, Compared, Not, And, Or, Implies, Once, Always, Since, Within}
 use Rattle.sot_formula.specs.Parts.{IsPart}
 
 -- which formula it is, by what stands there
@@ -14,7 +14,9 @@ Shape ws (whats.Compared of by number) g = g ≡ Compared of by number
 Shape ws (whats.Not k) g = (a : Formula) × IsPart ws k a × (g ≡ Not a)
 Shape ws (whats.And k n) g = (a b : Formula) × IsPart ws k a × IsPart ws n b × (g ≡ And a b)
 Shape ws (whats.Or k n) g = (a b : Formula) × IsPart ws k a × IsPart ws n b × (g ≡ Or a b)
+Shape ws (whats.Implies k n) g = (a b : Formula) × IsPart ws k a × IsPart ws n b × (g ≡ Implies a b)
 Shape ws (whats.Once k) g = (a : Formula) × IsPart ws k a × (g ≡ Once a)
+Shape ws (whats.Always k) g = (a : Formula) × IsPart ws k a × (g ≡ Always a)
 Shape ws (whats.Since k n) g = (a b : Formula) × IsPart ws k a × IsPart ws n b × (g ≡ Since a b)
 Shape ws (whats.Within ticks k) g = (a : Formula) × IsPart ws k a × (g ≡ Within ticks a)
 
@@ -24,7 +26,9 @@ shaped ws i (Compared of by number) at = (whats.Compared of by number, at, refl)
 shaped ws i (Not a) (k, at, lt, part) = (whats.Not k, at, (a, part, refl))
 shaped ws i (And a b) (k, n, at, lt, lt', part, part') = (whats.And k n, at, (a, b, part, part', refl))
 shaped ws i (Or a b) (k, n, at, lt, lt', part, part') = (whats.Or k n, at, (a, b, part, part', refl))
+shaped ws i (Implies a b) (k, n, at, lt, lt', part, part') = (whats.Implies k n, at, (a, b, part, part', refl))
 shaped ws i (Once a) (k, at, lt, part) = (whats.Once k, at, (a, part, refl))
+shaped ws i (Always a) (k, at, lt, part) = (whats.Always k, at, (a, part, refl))
 shaped ws i (Since a b) (k, n, at, lt, lt', part, part') = (whats.Since k n, at, (a, b, part, part', refl))
 shaped ws i (Within ticks a) (k, at, lt, part) = (whats.Within ticks k, at, (a, part, refl))
 
@@ -43,6 +47,12 @@ part_once ws i (And f h) g (k, n, at, lt, lt', part, part') other =
 part_once ws i (Or f h) g (k, n, at, lt, lt', part, part') other =
     let s = shape_at ws i (whats.Or k n) g at other in
     ap₂ Or (part_once ws k f s.0 part s.2) (part_once ws n h s.1 part' s.3) ∙ sym s.4
+part_once ws i (Implies f h) g (k, n, at, lt, lt', part, part') other =
+    let s = shape_at ws i (whats.Implies k n) g at other in
+    ap₂ Implies (part_once ws k f s.0 part s.2) (part_once ws n h s.1 part' s.3) ∙ sym s.4
+part_once ws i (Always f) g (k, at, lt, part) other =
+    let s = shape_at ws i (whats.Always k) g at other in
+    ap Always (part_once ws k f s.0 part s.1) ∙ sym s.2
 part_once ws i (Once f) g (k, at, lt, part) other =
     let s = shape_at ws i (whats.Once k) g at other in
     ap Once (part_once ws k f s.0 part s.1) ∙ sym s.2

@@ -9,7 +9,7 @@ use Rattle.sot_lists.specs.Places.{At}
 use Rattle.sot_lists.proofs.Places.{at_same}
 use Rattle.sot_formula.specs.declared.what.What.{What}
 use Rattle.sot_formula.specs.declared.what.What.TheVariants as whats
-use Rattle.sot_formula.specs.Formulas.{Formula, Truth, Compared, Not, And, Or, Once, Since, Within}
+use Rattle.sot_formula.specs.Formulas.{Formula, Truth, Compared, Not, And, Or, Implies, Once, Always, Since, Within}
 use Rattle.sot_formula.specs.Parts.{IsPart}
 use Rattle.sot_monitor.specs.Holding.{Moment, Compares, Holds}
 use Rattle.sot_monitor.specs.Standing.{IsLast, NowBy, last_of}
@@ -65,6 +65,28 @@ module _ (Ms : List Moment) (s : Moment) where
     once_now : (f : Formula) (l : ℕ) → IsLast more f l → (0 < l) ↔ Holds more (Once f) n
     once_now f zero last = (λ lt. absurd (omega (arith, lt)), λ h. (let e = length_end Ms s in absurd (last h.0 (omega (arith, h.1, e)) h.2)))
     once_now f (suc l) last = (λ lt. (l, (let e = length_end Ms s in omega (arith, last.0, e)), last.1), λ h. omega arith)
+
+    -- always held the moment before exactly where its own number is that moment's, and before the first moment it is 0
+    always_before : (f : Formula) (o : ℕ) → IsLast Ms (Always f) o → o ≡ n → Holds more f n → Holds more (Always f) n
+    always_before f zero last is now j le = (let same : n ≡ j = omega (arith, le, is) in subst (Holds more f) same now)
+    always_before f (suc m) last is now j le = ⊎_elim
+        (λ (lt : m < j). (let same : n ≡ j = omega (arith, le, lt, is) in subst (Holds more f) same now))
+        (λ (ge : j ≤ m). (before Ms (s ∷ []) f j (omega (arith, ge, last.0))).1 (last.1 j ge))
+        (later m j)
+
+    always_is : (f : Formula) (o m : ℕ) → IsLast Ms (Always f) o → n ≡ m → Holds more (Always f) n → o ≡ n
+    always_is f zero zero last e h = sym e
+    always_is f zero (suc m) last e h =
+        absurd (last m (omega (arith, e)) (λ j le. (before Ms (s ∷ []) f j (omega (arith, le, e))).0 (h j (omega (arith, le, e)))))
+    always_is f (suc o) zero last e h = (let low = last.0 in absurd (omega (arith, low, e)))
+    always_is f (suc o) (suc m) last e h = ⊎_elim
+        (λ (lt : o < m). absurd (last.2 m lt (omega (arith, e)) (λ j le. (before Ms (s ∷ []) f j (omega (arith, le, e))).0 (h j (omega (arith, le, e))))))
+        (λ (ge : m ≤ o). (let low = last.0 in omega (arith, ge, low, e)))
+        (later o m)
+
+    always_now : (f : Formula) (l : ℕ) → IsLast Ms (Always f) own → IsLast more f l → ((l ≡ suc n) × (own ≡ n)) ↔ Holds more (Always f) n
+    always_now f l last last_f =
+        (λ h. always_before f own last h.1 ((now_is f l last_f).1 h.0), λ h. ((now_is f l last_f).0 (h n (omega arith)), always_is f own n last refl h))
 
     within_now : (ticks : ℕ) (f : Formula) (l : ℕ) → IsLast more f l → ((0 < l) × (suc n ≤ l + ticks)) ↔ Holds more (Within ticks f) n
     within_now ticks f zero last = (λ h. absurd (omega (arith, h.0)), λ h. (let e = length_end Ms s in absurd (last h.0 (omega (arith, h.1, e)) h.3)))
@@ -155,6 +177,14 @@ module _ (Ms : List Moment) (s : Moment) where
         let a = now_is f (last_of lasts part.0) (parts part.0 f part.3 part.5) in
         let b = now_is g (last_of lasts part.1) (parts part.1 g part.4 part.6) in
         rw e (λ h. ⊎_elim (λ x. inl (a.1 x)) (λ x. inr (b.1 x)) h, λ h. ⊎_elim (λ x. inl (a.0 x)) (λ x. inr (b.0 x)) h))
+    now_by w (Implies f g) at part last =
+        (let e : w ≡ whats.Implies part.0 part.1 = at_same ws i w (whats.Implies part.0 part.1) at part.2 in
+        let a = now_is f (last_of lasts part.0) (parts part.0 f part.3 part.5) in
+        let b = now_is g (last_of lasts part.1) (parts part.1 g part.4 part.6) in
+        rw e (λ h x. b.1 (h (a.0 x)), λ h x. b.0 (h (a.1 x))))
+    now_by w (Always f) at part last =
+        (let e : w ≡ whats.Always part.0 = at_same ws i w (whats.Always part.0) at part.1 in
+        rw e (always_now f (last_of lasts part.0) last (parts part.0 f part.2 part.3)))
     now_by w (Once f) at part last =
         (let e : w ≡ whats.Once part.0 = at_same ws i w (whats.Once part.0) at part.1 in
         rw e (once_now f (last_of lasts part.0) (parts part.0 f part.2 part.3)))
@@ -214,6 +244,8 @@ part_inside ws i (Compared of by number) part = slice_get_within ws i (whats.Com
 part_inside ws i (Not f) part = slice_get_within ws i (whats.Not part.0) part.1
 part_inside ws i (And f g) part = slice_get_within ws i (whats.And part.0 part.1) part.2
 part_inside ws i (Or f g) part = slice_get_within ws i (whats.Or part.0 part.1) part.2
+part_inside ws i (Implies f g) part = slice_get_within ws i (whats.Implies part.0 part.1) part.2
 part_inside ws i (Once f) part = slice_get_within ws i (whats.Once part.0) part.1
+part_inside ws i (Always f) part = slice_get_within ws i (whats.Always part.0) part.1
 part_inside ws i (Since f g) part = slice_get_within ws i (whats.Since part.0 part.1) part.2
 part_inside ws i (Within ticks f) part = slice_get_within ws i (whats.Within ticks part.0) part.1

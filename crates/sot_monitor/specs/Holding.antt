@@ -4,7 +4,8 @@ use Rattle.sot_lists.specs.Places.{At}
 use Rattle.sot_formula.specs.declared.quantity.Quantity.{Quantity}
 use Rattle.sot_formula.specs.declared.quantity.Comparison.{Comparison}
 use Rattle.sot_formula.specs.declared.quantity.Comparison.TheVariants as comparisons
-use Rattle.sot_formula.specs.Formulas.{Formula, Truth, Compared, Not, And, Or, Once, Since, Within}
+use Rattle.sot_formula.specs.Formulas.{Formula, Truth, Compared, Not, And, Or, Implies, Once}
+use Rattle.sot_formula.specs.Formulas.{Always, Since, Within}
 
 -- a moment is the number of each quantity
 abbrev pub Moment : Type 0
@@ -25,7 +26,9 @@ Holds Ms (Compared of by number) i = (s : Moment) × At Ms i s × Compares by (s
 Holds Ms (Not f) i = Holds Ms f i → ⊥
 Holds Ms (And f g) i = Holds Ms f i × Holds Ms g i
 Holds Ms (Or f g) i = Holds Ms f i ⊎ Holds Ms g i
+Holds Ms (Implies f g) i = Holds Ms f i → Holds Ms g i
 Holds Ms (Once f) i = (j : ℕ) × (j ≤ i) × Holds Ms f j
+Holds Ms (Always f) i = (j : ℕ) → j ≤ i → Holds Ms f j
 Holds Ms (Since f g) i =
     (j : ℕ) × (j ≤ i) × Holds Ms g j × ((k : ℕ) → j < k → k ≤ i → Holds Ms f k)
 Holds Ms (Within ticks f) i = (j : ℕ) × (j ≤ i) × (i ≤ j + ticks) × Holds Ms f j

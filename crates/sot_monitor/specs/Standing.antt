@@ -35,7 +35,10 @@ NowBy (whats.And k n) own lasts added s =
     (last_of lasts k ≡ suc added) × (last_of lasts n ≡ suc added)
 NowBy (whats.Or k n) own lasts added s =
     (last_of lasts k ≡ suc added) ⊎ (last_of lasts n ≡ suc added)
+NowBy (whats.Implies k n) own lasts added s =
+    last_of lasts k ≡ suc added → last_of lasts n ≡ suc added
 NowBy (whats.Once k) own lasts added s = 0 < last_of lasts k
+NowBy (whats.Always k) own lasts added s = (last_of lasts k ≡ suc added) × (own ≡ added)
 NowBy (whats.Since k n) own lasts added s =
     (last_of lasts n ≡ suc added) ⊎ ((last_of lasts k ≡ suc added) × (0 < own) × (own ≡ added))
 NowBy (whats.Within ticks k) own lasts added s =

@@ -42,7 +42,9 @@ fn holds_now<L: Looks>(what: What, i: usize, own: u32, lasts: &[u32], added: u32
         What::Not(k) => lasts[k] != count,
         What::And { first, second } => lasts[first] == count && lasts[second] == count,
         What::Or { first, second } => lasts[first] == count || lasts[second] == count,
+        What::Implies { first, second } => lasts[first] != count || lasts[second] == count,
         What::Once(k) => lasts[k] > 0,
+        What::Always(k) => lasts[k] == count && own == added,
         What::Since { first, second } => {
             lasts[second] == count || (lasts[first] == count && own > 0 && own == added)
         }
