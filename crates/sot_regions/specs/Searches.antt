@@ -6,12 +6,19 @@ use Rattle.sot_atoms.specs.Grids.{Cut}
 use Rattle.sot_regions.specs.declared.search.Search.{Search}
 use Rattle.sot_regions.specs.declared.asked.Best.{Best}
 use Rattle.sot_regions.specs.declared.closing.Points.{Points}
+use Rattle.sot_regions.specs.declared.walks.Outside.{Outside}
 use Rattle.sot_regions.specs.Shapes.{HasShape}
 use Rattle.sot_invariant_atoms.specs.Asking.{asked_width}
 
 -- the grid is one of as many sides as the plant that is asked about has state variables
 abbrev pub IsSearch : Search → Type 0
 IsSearch s = s.grid.now.width ≡ asked_width s.ask.now
+
+-- so many sides have the plant that is asked about, the grid and both regions
+pub record IsOutside (o : Outside) : Type 0 where
+  pub grid : o.grid.now.width ≡ asked_width o.ask.now
+  pub safe : o.safe.now.width ≡ o.grid.now.width
+  pub safer : o.safer.now.width ≡ o.grid.now.width
 
 -- what is the best so far has its shape, where there is something
 abbrev pub IsBest : ℕ → Best → Type 0

@@ -13,6 +13,7 @@ use crate::found::{FoundRegions, RegionsFail};
 use crate::growing::orders;
 use crate::levels::cells_by_levels;
 use crate::search::{Good, Search};
+use crate::walks::Outside;
 use sot_atoms::{AtomSet, Block, Grid, MOST_ATOMS, Sums, atoms_in};
 use sot_box::{BoxN, Region};
 use sot_invariant_atoms::{ModuleAsk, atoms_of, greatest};
@@ -283,6 +284,28 @@ fn cells_in(
     level_cells(&search, found)
 }
 
+// Whether an atom of a grid is known to be in no level of regions.
+fn is_without_level(
+    alloc: Global,
+    ask: &ModuleAsk<'_>,
+    grid: &Grid,
+    found: &FoundRegions,
+) -> Result<bool, AllocError>
+    requires grid { grid.now.width ≡ asked_width ask.now }
+    requires shape { HasShape grid.now.width found.now }
+{
+    let safe = region_of(alloc, grid.width(), &found.safe)?;
+    let safer = region_of(alloc, grid.width(), &found.safer)?;
+    let outside = Outside {
+        alloc,
+        ask: &*ask,
+        grid: &*grid,
+        safe: &safe,
+        safer: &safer,
+    };
+    outside.has_endless()
+}
+
 // The same regions with cells by levels, in the grid that is so often coarser than the narrowest
 // one, or else in the coarsest finer one in which there are some; as they are where there is none.
 fn with_levels(
@@ -297,6 +320,9 @@ fn with_levels(
     ensures { IfOk result (HasShape (asked_width ask.now)) }
 {
     let mut found = found;
+    if is_without_level(alloc, ask, narrowest, &found)? {
+        return Ok(found);
+    }
     for finer in 0..times {
         if let Some(grid) = narrowest.coarser(times - finer) {
             if let Some(cells) = cells_in(alloc, ask, &grid, &found)? {

@@ -14,6 +14,7 @@ mod narrowing;
 mod search;
 mod seeds;
 mod thin;
+mod walks;
 
 pub use found::{FoundRegions, RegionsFail};
 pub use module::regions_of;
