@@ -47,7 +47,7 @@ at_long (q ∷ qs) (b ∷ bs) zero r inside ar =
     (b, refl, subst (λ (t : Stretch). t.from ≤ b) e inside.0, subst (λ (t : Stretch). b ≤ t.to) e inside.1)
 at_long (q ∷ qs) (b ∷ bs) (suc k) r inside ar = at_long qs bs k r inside.2 ar
 
-in_halves : (block low high : List Stretch) (at : List ℕ) → AreHalves block low high → IsInBlock block at → IsInBlock low at ⊎ IsInBlock high at
+pub in_halves : (block low high : List Stretch) (at : List ℕ) → AreHalves block low high → IsInBlock block at → IsInBlock low at ⊎ IsInBlock high at
 in_halves block low high at h inside =
     let a = at_long block at h.axis h.side inside h.longest.0 in
     let middle = h.side.from + (h.side.to - h.side.from) / 2 in

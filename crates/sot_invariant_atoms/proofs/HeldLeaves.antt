@@ -3,7 +3,6 @@ use Rattle.std.proofs.Common.{◌≡◌, ℕ, ◌+◌, ◌-◌, ℤ, List, ◌++
 use Rattle.std.specs.Prelude.{map, slice_set}
 use Rattle.std.proofs.lemmas.Option.{same_Some}
 use Rattle.sot_box.specs.Sides.{Side}
-use Rattle.sot_box.specs.Boxes.{IsWithin, point_box}
 use Rattle.sot_lists.specs.Places.{At}
 use Rattle.sot_lang.specs.declared.act.Act.{Act}
 use Rattle.sot_lang.specs.declared.tables.PlantInfo.{PlantInfo}
@@ -26,7 +25,6 @@ use Rattle.sot_iv.proofs.BodyUnique.{execution_same}
 use Rattle.sot_tube.specs.Certified.{command_interval, command_intervals, DraftsFrom}
 use Rattle.sot_tube.proofs.Leaving.{hulls_same, all_hulls_same}
 use Rattle.sot_lists.proofs.Places.{map_same}
-use Rattle.sot_iv.proofs.NarrowBoxes.{point_narrower}
 use Rattle.sot_rta.specs.Drafts.{IsCellDraft}
 use Rattle.sot_rta.proofs.CommandSides.{padded}
 use Rattle.sot_law_invariant_regions.specs.Following.{StaysAmong, HeldStays}
@@ -116,7 +114,7 @@ module _ (P : List ℤ → Type 0) (p : Tables) (rules : MeetsTableRules p) (jit
                     plant.inputs.items (λ k has. padded p k sc.writes.items f.draft (8 - length f.draft)),
               )
 
-      -- the held tube of the box, and some tube of a point in it
+      -- the held tube of the box, and some tube of a narrower one
       pub tube_of : (seen : List Side) → AreSeenHulls p.modules plant.sees.items seen → HeldStays P p jitter a area
           → StaysAmong P plant held seen area (sc.period + jitter)
       tube_of seen are h =
@@ -131,15 +129,13 @@ module _ (P : List ℤ → Type 0) (p : Tables) (rules : MeetsTableRules p) (jit
           let commands : command_intervals p plant sc h.fired.draft ≡ held = sym (f.2 ∙ ap (λ (g : Intervals). command_intervals p plant sc g.draft) same) in
           subst (λ q. StaysAmong P plant q seen area (sc.period + jitter)) commands (stays area h seen are)
 
-      pub some_tube_of : (seen : List Side) → AreSeenHulls p.modules plant.sees.items seen → (s : List ℤ) → IsWithin area s
-          → HeldStays P p jitter a (point_box s)
+      pub some_tube_of : (seen : List Side) → AreSeenHulls p.modules plant.sees.items seen → (box : List Side) → AreNarrower box area
+          → HeldStays P p jitter a box
           → SomeTubeStays P plant held seen area (sc.period + jitter)
-      some_tube_of seen are s within h =
-          let box = point_box s in
+      some_tube_of seen are box narrow h =
           let d = drafts box h in
           let c = coded box h in
           let g = found h.acts c d.hulls d.are in
-          let narrow = point_narrower area s within in
           let f = drafts_narrow p rules a plant plant_at sc sc_at h.acts c d.hulls d.are box area g.0 narrow g.1 in
           let same_hulls = all_hulls_same p f.1.hulls d.hulls f.1.are d.are in
           let runs = subst (λ q. IsNodeExecution p sc h.acts (slice_set q a.plant box) (Ok f.0)) same_hulls f.1.runs in

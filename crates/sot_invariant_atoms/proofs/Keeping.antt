@@ -8,6 +8,8 @@ use Rattle.sot_box.specs.Boxes.{IsWithin, point_box}
 use Rattle.sot_box.specs.Regions.{IsInRegion}
 use Rattle.sot_lang.specs.declared.tables.ModuleInfo.{ModuleInfo}
 use Rattle.sot_lang.specs.Tables.{Tables}
+use Rattle.sot_iv.specs.Monotony.{AreNarrower}
+use Rattle.sot_iv.proofs.NarrowBoxes.{point_narrower}
 use Rattle.sot_atoms.specs.declared.axis.Axis.{Axis}
 use Rattle.sot_atoms.specs.declared.block.Stretch.{Stretch}
 use Rattle.sot_atoms.specs.Blocks.{FitsAxes, IsOneAtom, AreHalves}
@@ -74,7 +76,7 @@ module _ (p : Tables) (jitter : ℕ) (a : ModuleInfo) (grid : Cut) where
   pub taken_keeps : (old new : List ℕ) (block : List Stretch) (area : List Side) (found : TubeInAtoms) → IsCut grid.width grid.last grid.axes
       → FitsAxes grid.axes block → length area ≡ grid.width → (FitsAxes grid.axes block → IsAreaOf grid block area)
       → (found ≡ Leaves → HeldStays (IsAmong grid old) p jitter a area → ⊥)
-      → (found ≡ Apart → (s : List ℤ) → IsWithin area s → HeldStays (IsAmong grid old) p jitter a (point_box s) → ⊥)
+      → (found ≡ Apart → (box : List Side) → AreNarrower box area → HeldStays (IsAmong grid old) p jitter a box → ⊥)
       → (found ≡ Inside → ⊥) → (found ≡ Apart) ⊎ IsOneAtom block → length new ≡ length old → (SetFits grid.axes old block → IsTaken grid.axes old new block)
       → KeepsHeldRegions p jitter a grid old new
   taken_keeps old new block area found cut fits width is_area leaves apart not_inside whole size taken finest region held holds s inside =
@@ -100,9 +102,9 @@ module _ (p : Tables) (jitter : ℕ) (a : ModuleInfo) (grid : Cut) where
         where
           by_found : (f : TubeInAtoms) → found ≡ f → ⊥
           by_found Inside e = not_inside e
-          by_found Apart e = apart e s w stays
+          by_found Apart e = apart e (point_box s) (point_narrower area s w) stays
           by_found Leaves e =
-              ⊎_elim (λ (q : found ≡ Apart). apart q s w stays)
+              ⊎_elim (λ (q : found ≡ Apart). apart q (point_box s) (point_narrower area s w) stays)
               (λ (one : IsOneAtom block).
               let same : area ≡ point_box s = point_is area s w (thin grid cut area block width four fits (is_area fits) finest one) in
               leaves e (subst (HeldStays (IsAmong grid old) p jitter a) (sym same) stays))

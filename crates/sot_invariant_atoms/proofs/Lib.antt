@@ -5,4 +5,5 @@ pub mod HeldLeaves
 pub mod Standing
 pub mod Keeping
 pub mod Covering
+pub mod Closing
 pub mod Questions

@@ -1,13 +1,13 @@
 -- A step of a walk, and a walk along a held tube.
-use Rattle.std.proofs.Common.{◌≡◌, ℕ, ◌≤◌, ℤ, List, ◌++◌, Ok, Err, length, refl, sym, ◌∙◌, subst}
+use Rattle.std.proofs.Common.{◌≡◌, ℕ, ◌≤◌, List, ◌++◌, Ok, Err, length, refl, sym, ◌∙◌, subst}
 use Rattle.std.specs.Prelude.{drop}
 use Rattle.sot_lists.specs.Places.{At}
 use Rattle.sot_box.specs.Sides.{Side, AreOrdered}
-use Rattle.sot_box.specs.Boxes.{IsWithin, point_box}
 use Rattle.sot_lang.specs.declared.tables.PlantInfo.{PlantInfo}
 use Rattle.sot_lang.specs.Tables.{Tables}
 use Rattle.sot_lang.specs.TableRules.{MeetsTableRules}
 use Rattle.sot_iv.specs.declared.may_trap.MayTrap.{MayTrap}
+use Rattle.sot_iv.specs.Monotony.{AreNarrower}
 use Rattle.sot_iv.specs.PlantTicks.{MayTickOver, IsBoxOver}
 use Rattle.sot_tube.proofs.WalkRanges.{after, same, front_fits, ranges_next}
 use Rattle.sot_atoms.specs.Grids.{Cut}
@@ -64,9 +64,9 @@ module _ (w : Walked) (goes : Goes w) where
 pub goes_held : (q : Asked) (first : List Side) (w : Walked) (p : Tables) (k ticks : ℕ) (info : PlantInfo) (held seen : List Side) → w.program ≡ p
     → w.plant ≡ k → w.area ≡ first → w.ticks ≡ ticks → GoesBy w held seen → AreOrdered seen → At p.plants k info
     → ((grid : Cut) (set : List ℕ) → HeldStays (IsAmong grid set) q.program q.jitter q.info first → StaysAmong (IsAmong grid set) info held seen first ticks)
-    → ((grid : Cut) (set : List ℕ) (s : List ℤ) → IsWithin first s → HeldStays (IsAmong grid set) q.program q.jitter q.info (point_box s)
+    → ((grid : Cut) (set : List ℕ) (box : List Side) → AreNarrower box first → HeldStays (IsAmong grid set) q.program q.jitter q.info box
     → SomeTubeStays (IsAmong grid set) info held seen first ticks) → GoesHeld q first w
-goes_held q first w p k ticks info held seen program_is plant_is area_is ticks_is by ordered at whole points = record {
+goes_held q first w p k ticks info held seen program_is plant_is area_is ticks_is by ordered at whole narrower = record {
   starts = area_is;
   held = held;
   seen = seen;
@@ -76,6 +76,6 @@ goes_held q first w p k ticks info held seen program_is plant_is area_is ticks_i
   is = subst (λ (t : Tables). At t.plants w.plant info) (sym program_is) (subst (λ n. At p.plants n info) (sym plant_is) at);
   whole = λ grid set h. subst (λ b. StaysAmong (IsAmong grid set) info held seen b w.ticks) (sym area_is)
       (subst (StaysAmong (IsAmong grid set) info held seen first) (sym ticks_is) (whole grid set h));
-  points = λ grid set s within h. subst (λ b. SomeTubeStays (IsAmong grid set) info held seen b w.ticks) (sym area_is)
-      (subst (SomeTubeStays (IsAmong grid set) info held seen first) (sym ticks_is) (points grid set s within h));
+  narrower = λ grid set box within h. subst (λ b. SomeTubeStays (IsAmong grid set) info held seen b w.ticks) (sym area_is)
+      (subst (SomeTubeStays (IsAmong grid set) info held seen first) (sym ticks_is) (narrower grid set box within h));
 }

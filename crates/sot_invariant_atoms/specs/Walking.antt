@@ -1,12 +1,12 @@
 -- A walk along a tube: where it stands, and what a step of it gives. The commands and the states of
 -- seen plants stay in their intervals all along.
-use Rattle.std.specs.Prelude.{◌≡◌, ℕ, ℤ, List, Ok, Err, length}
+use Rattle.std.specs.Prelude.{◌≡◌, ℕ, List, Ok, Err, length}
 use Rattle.sot_lists.specs.Places.{At}
 use Rattle.sot_box.specs.Sides.{Side, AreOrdered}
-use Rattle.sot_box.specs.Boxes.{IsWithin, point_box}
 use Rattle.sot_lang.specs.declared.tables.PlantInfo.{PlantInfo}
 use Rattle.sot_lang.specs.Tables.{Tables}
 use Rattle.sot_iv.specs.declared.may_trap.MayTrap.{MayTrap}
+use Rattle.sot_iv.specs.Monotony.{AreNarrower}
 use Rattle.sot_iv.specs.PlantTicks.{MayTickBox, IsBoxAfterTick, ArePlantRanges}
 use Rattle.sot_atoms.specs.Grids.{Cut}
 use Rattle.sot_law_invariant_regions.specs.Following.{StaysAmong, HeldStays}
@@ -56,7 +56,7 @@ HasNoHeldTube q area =
     → HeldStays (IsAmong grid set) q.program q.jitter q.info area → ⊥
 
 -- the walk begins with a box, and goes along its held tube: where that stays in a set, or where the
--- held tube of a point in the box does, the walk does so too, or one from a narrower box
+-- held tube of a narrower box does, the walk does so too, or one from a narrower box
 pub record GoesHeld (q : Asked) (first : List Side) (w : Walked) : Type 0 where
   pub starts : w.area ≡ first
   pub held : List Side
@@ -68,8 +68,8 @@ pub record GoesHeld (q : Asked) (first : List Side) (w : Walked) : Type 0 where
   pub whole : (grid : Cut) (set : List ℕ)
       → HeldStays (IsAmong grid set) q.program q.jitter q.info first
       → StaysAmong (IsAmong grid set) info held seen w.area w.ticks
-  pub points : (grid : Cut) (set : List ℕ) (s : List ℤ) → IsWithin first s
-      → HeldStays (IsAmong grid set) q.program q.jitter q.info (point_box s)
+  pub narrower : (grid : Cut) (set : List ℕ) (box : List Side) → AreNarrower box first
+      → HeldStays (IsAmong grid set) q.program q.jitter q.info box
       → SomeTubeStays (IsAmong grid set) info held seen w.area w.ticks
 
 -- none of the tubes along which the walk goes stays in the set

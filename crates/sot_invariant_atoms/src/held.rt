@@ -1,7 +1,8 @@
 //! The held tube and the tube of any commands, beside a set of atoms.
 
-ghost use Rattle.std.specs.Prelude.{◌≡◌, ℤ, List, length};
-ghost use Rattle.sot_box.specs.Boxes.{IsWithin, point_box};
+ghost use Rattle.std.specs.Prelude.{◌≡◌, List, length};
+ghost use Rattle.sot_box.specs.Sides.{Side};
+ghost use Rattle.sot_iv.specs.Monotony.{AreNarrower};
 ghost use Rattle.sot_invariant_atoms.specs.Asking.{asked_width};
 ghost use Rattle.sot_law_invariant_regions.specs.Following.{HeldStays};
 ghost use Rattle.sot_invariant_atoms.specs.Greatest.{IsAmong};
@@ -20,9 +21,9 @@ pub fn held_tube(ask: &ModuleAsk<'_>, area: &BoxN, grid: &Grid, set: &AtomSet) -
     requires grid { grid.now.width ≡ asked_width ask.now }
     ensures leaves { result ≡ Leaves → HeldStays (IsAmong grid.now set.now) ask.now.program
         ask.now.jitter ask.now.info area.now → ⊥ }
-    ensures apart { result ≡ Apart → (s : List ℤ) → IsWithin area.now s
-        → HeldStays (IsAmong grid.now set.now) ask.now.program ask.now.jitter ask.now.info
-        (point_box s) → ⊥ }
+    ensures apart { result ≡ Apart → (box : List Side) → AreNarrower box area.now
+        → HeldStays (IsAmong grid.now set.now) ask.now.program ask.now.jitter ask.now.info box
+        → ⊥ }
 {
     match Walk::held(ask, area) {
         None => TubeInAtoms::Leaves,

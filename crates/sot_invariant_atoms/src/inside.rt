@@ -6,6 +6,7 @@ ghost use Rattle.sot_box.specs.Boxes.{IsWithin};
 ghost use Rattle.sot_box.specs.Regions.{IsInRegion};
 ghost use Rattle.sot_atoms.specs.Blocks.{FitsAxes, atom_count};
 ghost use Rattle.sot_invariant_atoms.specs.Greatest.{HasPointsOf, HasPointsIn, HasMembersOf};
+ghost use Rattle.sot_invariant_atoms.specs.Closed.{HasCoveredOf, HasCoveredIn};
 
 use sot_atoms::{AtomSet, Block, Grid, halves_of};
 use sot_box::{BoxN, Interval, Region};
@@ -54,6 +55,7 @@ fn put_covered(grid: &Grid, region: &Region, block: &Block, set: &mut AtomSet)
     ensures size { length set.new ≡ length set.old }
     ensures more { HasMembersOf grid.now set.old set.new }
     ensures holds { HasPointsIn grid.now set.new region.now.boxes block.now }
+    ensures covered { HasCoveredIn grid.now set.new region.now.boxes block.now }
 {
     let area = grid.area(block);
     if region.covers(&area) {
@@ -74,6 +76,7 @@ pub fn atoms_of(alloc: Global, grid: &Grid, region: &Region) -> Result<AtomSet, 
     requires { region.now.width ≡ grid.now.width }
     ensures size { IfOk result (λ set. length set ≡ atom_count grid.now.axes) }
     ensures holds { IfOk result (λ set. HasPointsOf grid.now set region.now.boxes) }
+    ensures covered { IfOk result (λ set. HasCoveredOf grid.now set region.now.boxes) }
 {
     // A look at the axes brings how they are made.
     let _axes = grid.axes();

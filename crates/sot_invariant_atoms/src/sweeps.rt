@@ -9,6 +9,7 @@ ghost use Rattle.std.specs.Prelude.{◌≡◌, ◌⊎◌, length, IfOk, MatchBoo
 ghost use Rattle.sot_atoms.specs.Blocks.{FitsAxes, IsOneAtom, AreHalves, atom_count};
 ghost use Rattle.sot_invariant_atoms.specs.Asking.{asked_width};
 ghost use Rattle.sot_invariant_atoms.specs.Greatest.{KeepsHeldRegions, TellsNone};
+ghost use Rattle.sot_invariant_atoms.specs.Closed.{KeepsClosedSets, HasClosedSets};
 ghost use Rattle.sot_invariant_atoms.specs.declared.tube.TubeInAtoms.TheVariants.{Apart};
 
 use crate::ask::ModuleAsk;
@@ -60,6 +61,8 @@ fn shrink_block(
     ensures size { length set.new ≡ length set.old }
     ensures keeps { KeepsHeldRegions ask.now.program ask.now.jitter ask.now.info grid.now set.old
         set.new }
+    ensures closed { KeepsClosedSets ask.now.program ask.now.jitter ask.now.info grid.now set.old
+        set.new }
 {
     if set.has_none(grid, block) {
         return false;
@@ -96,6 +99,8 @@ fn sweep(
     ensures size { length set.new ≡ length set.old }
     ensures keeps { KeepsHeldRegions ask.now.program ask.now.jitter ask.now.info grid.now set.old
         set.new }
+    ensures closed { KeepsClosedSets ask.now.program ask.now.jitter ask.now.info grid.now set.old
+        set.new }
 {
     let mut any = false;
     let count = reaches.len();
@@ -128,6 +133,8 @@ fn shrink(
     ensures size { length set.new ≡ length set.old }
     ensures keeps { KeepsHeldRegions ask.now.program ask.now.jitter ask.now.info grid.now set.old
         set.new }
+    ensures closed { KeepsClosedSets ask.now.program ask.now.jitter ask.now.info grid.now set.old
+        set.new }
 {
     let met = reaches(alloc, ask, tiles)?;
     let mut stale = AtomSet::none(alloc, tiles)?;
@@ -156,6 +163,8 @@ pub fn greatest(
     ensures size { length set.new ≡ length set.old }
     ensures keeps { KeepsHeldRegions ask.now.program ask.now.jitter ask.now.info grid.now set.old
         set.new }
+    ensures closed { KeepsClosedSets ask.now.program ask.now.jitter ask.now.info grid.now set.old
+        set.new }
 {
     match grid.coarser(tile_shift(grid.width())) {
         Some(tiles) => shrink(alloc, ask, grid, &tiles, set),
@@ -164,12 +173,14 @@ pub fn greatest(
 }
 
 /// The greatest set of atoms of the module's safe region of each of which the held tube stays in
-/// the set. Where the grid is the finest one of that region's hull and the set is empty, no region
-/// with a certificate lies in the safe region.
+/// the set: it has each closed set of atoms that lies there. Where the grid is the finest one of
+/// that region's hull and the set is empty, no region with a certificate lies in the safe region.
 pub fn closed_atoms(alloc: Global, ask: &ModuleAsk<'_>, grid: &Grid) -> Result<AtomSet, AllocError>
     requires { grid.now.width ≡ asked_width ask.now }
     ensures size { IfOk result (λ set. length set ≡ atom_count grid.now.axes) }
     ensures none { IfOk result (λ set. TellsNone ask.now.program ask.now.jitter ask.now.info
+        grid.now set) }
+    ensures closed { IfOk result (λ set. HasClosedSets ask.now.program ask.now.jitter ask.now.info
         grid.now set) }
 {
     // A look at the program and the axes brings how they are made.

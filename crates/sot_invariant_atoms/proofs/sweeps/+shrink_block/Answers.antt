@@ -1,5 +1,6 @@
 use Rattle.std.proofs.Common.{arith}
 use Rattle.sot_invariant_atoms.proofs.Keeping.{taken_keeps, part_less, part_fits}
+use Rattle.sot_invariant_atoms.proofs.Closing.{taken_closed}
 use Rattle.sot_invariant_atoms.proofs.sweeps.+shrink_block.Goals as goal
 
 pub returns-in_default-clause-keeps : goal.returns-in_default-clause-keeps
@@ -30,3 +31,10 @@ shrink_block-second-requires t c = (
         c.in_order-parts.ensures.high,
   ),
 )
+
+pub returns-in_default-clause-closed : goal.returns-in_default-clause-closed
+returns-in_default-clause-closed t c =
+    taken_closed c.args.ask.now.program c.args.ask.now.jitter c.args.ask.now.info c.args.grid.now c.args.set.now c.take.new.self c.args.block.now
+    c.area-area.result c.held_tube-found.result c.area-area.ensures.cut c.requires.fits c.area-area.ensures.width c.area-area.ensures.numbers
+    c.held_tube-found.ensures.leaves c.held_tube-found.ensures.apart (λ e. let y = c.says_inside.ensures.no e in let n = c.if-says_inside.false in cc)
+    c.in_default.ensures c.take.ensures.taken

@@ -1,6 +1,5 @@
 use Rattle.std.proofs.Common.{◌∙◌, length, ap, refl}
 use Rattle.std.proofs.lemmas.List.{length-map}
-use Rattle.sot_box.specs.Boxes.{point_box}
 use Rattle.sot_rta.proofs.Inputs.{inputs_there}
 use Rattle.sot_invariant_atoms.specs.Greatest.{IsAmong}
 use Rattle.sot_invariant_atoms.proofs.HeldLeaves.{never_drafts, tube_of, some_tube_of}
@@ -63,10 +62,10 @@ returns c =
     c.put_commands.ensures c.as_slice-seen.result.now hulls
     (held_of c.args.ask.now c.program-p.ensures.rules c.program-p.ensures.asked c.program-p.result.now c.program-p.ensures.value
     c.info-info.result.now c.info-info.ensures (IsAmong grid set) c.jitter.result c.jitter.ensures.value c.args.area.now h))
-    (λ grid set s w h. some_tube_of (IsAmong grid set) c.program-p.result.now rules
+    (λ grid set box w h. some_tube_of (IsAmong grid set) c.program-p.result.now rules
     c.jitter.result c.info-info.result.now c.plant_at-plant.result.now c.plant_at-plant.ensures.is c.node_at-sc.result.now c.node_at-sc.ensures.is
     c.args.area.now c.cell_draft.result c.cell_draft.ensures
     c.in-Ok.draft c.in-Ok.is c.deref.result.now c.deref-2.result.now c.put_commands.new.sides c.deref.ensures.value c.deref-2.ensures.value
     c.put_commands.ensures c.as_slice-seen.result.now hulls
-    s w (held_of c.args.ask.now c.program-p.ensures.rules c.program-p.ensures.asked c.program-p.result.now c.program-p.ensures.value
-    c.info-info.result.now c.info-info.ensures (IsAmong grid set) c.jitter.result c.jitter.ensures.value (point_box s) h))
+    box w (held_of c.args.ask.now c.program-p.ensures.rules c.program-p.ensures.asked c.program-p.result.now c.program-p.ensures.value
+    c.info-info.result.now c.info-info.ensures (IsAmong grid set) c.jitter.result c.jitter.ensures.value box h))
