@@ -7,3 +7,4 @@ pub mod Keeping
 pub mod Covering
 pub mod Closing
 pub mod Questions
+pub mod Examples
