@@ -1,8 +1,5 @@
 -- Between the crate's own functions: a search in a grid of the plant's state variables.
-use Rattle.std.specs.Prelude.{◌≡◌, ℕ, ◌+◌, ◌<◌, ◌≤◌, ◌⊎◌, ℤ, pos, true, List, IfSome}
-use Rattle.sot_lists.specs.Places.{At}
-use Rattle.sot_atoms.specs.declared.axis.Axis.{Axis}
-use Rattle.sot_atoms.specs.Grids.{Cut}
+use Rattle.std.specs.Prelude.{◌≡◌, ℕ, ◌⊎◌, true, IfSome}
 use Rattle.sot_regions.specs.declared.search.Search.{Search}
 use Rattle.sot_regions.specs.declared.asked.Best.{Best}
 use Rattle.sot_regions.specs.declared.closing.Points.{Points}
@@ -31,13 +28,3 @@ AreGoneThrough best = (best.done ≡ true) ⊎ (best.grains ≡ 64)
 -- the points before and now are those of boxes of so many sides
 abbrev pub AreWidePoints : ℕ → Points → Type 0
 AreWidePoints width points = (points.before.width ≡ width) × (points.now.width ≡ width)
-
--- each place of a side is one number
-abbrev pub IsFinestOn : Cut → ℕ → Type 0
-IsFinestOn grid side =
-    (k : ℕ) (x : Axis) → 4 ≤ k + grid.width → At grid.axes k x → x.side ≡ side → x.shift ≡ 0
-
--- of the first sides each one whose grain is told as 1 is such a side
-abbrev pub TellFinest : Cut → ℕ → List ℤ → Type 0
-TellFinest grid count grains =
-    (side : ℕ) → side < count → At grains side (pos 1) → IsFinestOn grid side

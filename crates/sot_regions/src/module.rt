@@ -1,15 +1,15 @@
 //! The regions of one module of a program.
 
-ghost use Rattle.std.specs.Prelude.{◌≡◌, ◌<◌, ℤ, pos, List, IfOk, IfErr};
+ghost use Rattle.std.specs.Prelude.{◌≡◌, ◌<◌, ℤ, List, IfOk, IfErr};
 ghost use Rattle.sot_lists.specs.Places.{At};
 ghost use Rattle.sot_lang.specs.declared.tables.ModuleInfo.{ModuleInfo as AModule};
 ghost use Rattle.sot_lang.specs.OwnerNames.{width_of};
 ghost use Rattle.sot_invariant_atoms.specs.Asking.{MayAsk};
-ghost use Rattle.sot_atoms.specs.Grids.{IsFinest};
+ghost use Rattle.sot_atoms.specs.Grids.{IsCut};
 ghost use Rattle.sot_law_invariant_regions.specs.Following.{HasNoHeldRegion};
 ghost use Rattle.sot_regions.specs.Shapes.{HasShape};
-ghost use Rattle.sot_regions.specs.Grains.{IsUnitGrain};
-ghost use Rattle.sot_regions.specs.Searches.{IsFinestOn};
+ghost use Rattle.sot_regions.specs.Grains.{IsUnitGrain, IsToldGrain, AreToldGrains};
+ghost use Rattle.sot_regions.specs.Grains.{HasNoClosedSetAt};
 ghost use Rattle.sot_regions.specs.declared.found.RegionsFail.TheVariants.{SafeNone};
 
 use crate::asked::{narrowest_grid, regions_from};
@@ -25,14 +25,15 @@ use std::alloc::Global;
 // The grain of a side; the greatest number where it is longer.
 fn grain_of(grid: &Grid, side: usize) -> i64
     requires { side < grid.now.width }
-    ensures { result ≡ pos 1 → IsFinestOn grid.now side }
+    ensures { IsToldGrain grid.now side result }
 {
     i64::try_from(grid.grain(side)).unwrap_or(i64::MAX)
 }
 
 // The grain of each side.
 fn grains(grid: &Grid) -> Point
-    ensures { IsUnitGrain result → IsFinest grid.now }
+    ensures told { AreToldGrains grid.now result }
+    ensures cut { IsCut grid.now.width grid.now.last grid.now.axes }
 {
     // A look at the axes brings how they are made.
     let _axes = grid.axes();
@@ -57,6 +58,8 @@ pub fn regions_of(
     ensures none { IfErr result (λ e. (grain : List ℤ) (info : AModule) → e ≡ SafeNone grain
         → IsUnitGrain grain → At p.now.modules «module» info
         → HasNoHeldRegion p.now jitter info) }
+    ensures closed { IfErr result (λ e. (grain : List ℤ) (info : AModule) → e ≡ SafeNone grain
+        → At p.now.modules «module» info → HasNoClosedSetAt p.now jitter info grain) }
 {
     let given = &module_at(p, module).safe;
     let ask = ModuleAsk::of(p, module, jitter);

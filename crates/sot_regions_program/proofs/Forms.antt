@@ -158,7 +158,7 @@ pub tells_grain : (t : Tables) (jitter m : ℕ) (grain : List ℤ) → m < lengt
     → TellsModule t jitter m (SafeNone m grain)
 tells_grain t jitter m grain less alone tells =
     let a = at_below t.modules m less in
-    (refl, alone, (a.0, a.1, λ unit. tells grain a.0 refl unit a.1 (alone a.0 a.1)))
+    (refl, alone, (a.0, a.1, tells grain a.0 refl a.1 (alone a.0 a.1)))
 
 pub tells_beside : (t : Tables) (jitter m : ℕ) (grain : List ℤ) → m < length t.modules → ¬ (IsAloneAt t m)
     → TellsModule t jitter m (SafeNoneBeside m grain)

@@ -29,6 +29,7 @@ use Rattle.sot_law_invariant_regions.proofs.HeldRegions.{certified_shown, shown_
 use Rattle.sot_law_invariant_regions.proofs.Alone.{region_alike}
 use Rattle.sot_law_equal_verdicts.specs.ModuleLaws.{LookAlike, HaveOnePlant}
 use Rattle.sot_law_equal_verdicts.proofs.Looks.{run_alike, stays_alone}
+use Rattle.sot_regions.specs.Grains.{HasNoClosedSetAt}
 use Rattle.sot_regions_program.specs.declared.refusal.RegionsRefusal.{RegionsRefusal}
 use Rattle.sot_regions_program.specs.declared.refusal.RegionsRefusal.TheVariants.{Jitter, SafeNone, SafeNoneBeside, TooMany, SaferNone}
 use Rattle.sot_report.specs.Missions.{Resolves}
@@ -147,14 +148,31 @@ none_later : (t : Tables) (jitter later : ℕ) (a : ModuleInfo) → jitter ≤ l
 none_later t jitter later a less none region s held inside there =
     none region s (λ x in_region. held_shorter (IsInRegion region) t jitter later a (point_box x) less (held x in_region)) inside there
 
+-- .. nor a closed set of atoms
+closed_later : (t : Tables) (jitter later : ℕ) (a : ModuleInfo) (grain : List ℤ) → jitter ≤ later → HasNoClosedSetAt t jitter a grain
+    → HasNoClosedSetAt t later a grain
+closed_later t jitter later a grain less (grid, is, none) = (
+  grid,
+  is,
+  λ closed at is_closed lies atom member.
+      none closed at
+      (λ x x_atom x_member. let c = is_closed x x_atom x_member in (c.0, c.1, held_shorter _ t jitter later a c.0 less c.2))
+      lies atom member,
+)
+
 -- what is known of a module's held regions is known of its regions
 module _ (p : Program) (t : Tables) (jitter m : ℕ) (resolves : Resolves p t) (searched : IsSearched t jitter)
     (before : 0 < m → HaveRegions p t jitter m) where
   leaves_nothing : (grain : List ℤ) → IsAloneAt t m → TellsGrain t jitter m grain → LeavesNothing p t jitter m grain
-  leaves_nothing grain alone (a, at, none) later unit less =
+  leaves_nothing grain alone (a, at, closed, none) later less =
       let boxes = searched_boxes t jitter searched in (
-        has_no_cells p t later m a resolves boxes at (alone a at) (none_later t jitter later a less (none unit)),
-        has_no_region p t later m a resolves boxes at (alone a at) (none_later t jitter later a less (none unit)),
+        λ x at_x.
+            subst (λ (y : ModuleInfo). HasNoClosedSetAt t later y grain) (at_same t.modules m a x at at_x)
+            (closed_later t jitter later a grain less closed),
+        λ unit. (
+          has_no_cells p t later m a resolves boxes at (alone a at) (none_later t jitter later a less (none unit)),
+          has_no_region p t later m a resolves boxes at (alone a at) (none_later t jitter later a less (none unit)),
+        ),
       )
 
   pub names_module : (r : RegionsRefusal) → TellsModule t jitter m r → NamesModule p t jitter r

@@ -24,7 +24,7 @@ use Rattle.sot_certified_text.specs.ReadAgain.{written_with_jitter}
 use Rattle.sot_certify.specs.Certifying.{Certifies}
 use Rattle.sot_law_regions_rewrite.specs.WithoutRegions.{AreSameButForRegions}
 use Rattle.sot_law_invariant_regions.specs.Alone.{IsAlone}
-use Rattle.sot_regions.specs.Grains.{IsUnitGrain}
+use Rattle.sot_regions.specs.Grains.{IsUnitGrain, HasNoClosedSetAt}
 use Rattle.sot_regions_rewrite.specs.declared.modules.ModuleRegions.{ModuleRegions}
 use Rattle.sot_regions_rewrite.specs.OtherRegions.{with_regions}
 use Rattle.sot_regions_program.specs.Lines.{refusal_line}
@@ -117,12 +117,17 @@ IsReached p t jitter m =
 abbrev pub IsAloneAt : Tables → ℕ → Type 0
 IsAloneAt t m = (a : ModuleInfo) → At t.modules m a → IsAlone t a
 
--- nothing is left of the safe region of module m, which no other plant concerns, at this grain.
--- Where that is one unit, it has no region, at this jitter or a greater one
+-- no set of atoms of this grain in the safe region of module m is closed
+abbrev pub HasNoClosedAtoms : Tables → ℕ → ℕ → List ℤ → Type 0
+HasNoClosedAtoms t jitter m grain =
+    (a : ModuleInfo) → At t.modules m a → HasNoClosedSetAt t jitter a grain
+
+-- nothing is left of the safe region of module m, which no other plant concerns, at this grain, at
+-- this jitter or a greater one. Where it is one unit, the module has no region
 abbrev pub LeavesNothing : Program → Tables → ℕ → ℕ → List ℤ → Type 0
 LeavesNothing p t jitter m grain =
-    (later : ℕ) → IsUnitGrain grain → jitter ≤ later
-    → HasNoCells p t later m × HasNoRegion p t later m
+    (later : ℕ) → jitter ≤ later → HasNoClosedAtoms t later m grain
+    × (IsUnitGrain grain → HasNoCells p t later m × HasNoRegion p t later m)
 
 -- a line that names a module of the program: the first one of which no region was found, since
 -- those before it have regions

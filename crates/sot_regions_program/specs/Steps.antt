@@ -15,7 +15,7 @@ use Rattle.sot_certified_text.specs.ReadAgain.{IsCertificateFor, written_with_ji
 use Rattle.sot_regions_rewrite.specs.declared.modules.ModuleRegions.{ModuleRegions}
 use Rattle.sot_law_invariant_regions.specs.Following.{HasNoHeldRegion}
 use Rattle.sot_law_invariant_regions.specs.Alone.{IsAlone}
-use Rattle.sot_regions.specs.Grains.{IsUnitGrain}
+use Rattle.sot_regions.specs.Grains.{IsUnitGrain, HasNoClosedSetAt}
 use Rattle.sot_regions.specs.declared.found.RegionsFail.{RegionsFail}
 use Rattle.sot_regions.specs.declared.found.RegionsFail.TheVariants as causes
 use Rattle.sot_regions_program.specs.declared.refusal.RegionsRefusal.{RegionsRefusal}
@@ -107,11 +107,16 @@ AnswersTree p jitter status text =
     ((t : Tables) × Resolves p t × Answers p t jitter status text)
     ⊎ ((status ≡ 3) × ((fault : TypeFault) × IsFirstFault p fault × (text ≡ type_text fault)))
 
--- module m is there, and where nothing is left of its safe region at a grain of one unit, no held
--- region lies in it
+-- nothing is left of a safe region at a grain: no closed set of atoms of that grain lies in it and,
+-- where that is one unit, no held region
+abbrev pub IsNothingLeft : Tables → ℕ → ModuleInfo → List ℤ → Type 0
+IsNothingLeft t jitter a grain =
+    HasNoClosedSetAt t jitter a grain × (IsUnitGrain grain → HasNoHeldRegion t jitter a)
+
+-- module m is there, and nothing is left of its safe region
 abbrev pub TellsGrain : Tables → ℕ → ℕ → List ℤ → Type 0
 TellsGrain t jitter m grain =
-    (a : ModuleInfo) × At t.modules m a × (IsUnitGrain grain → HasNoHeldRegion t jitter a)
+    (a : ModuleInfo) × At t.modules m a × IsNothingLeft t jitter a grain
 
 -- a line that names module m, with what is known of its held regions
 abbrev pub TellsModule : Tables → ℕ → ℕ → RegionsRefusal → Type 0
@@ -136,12 +141,11 @@ AreSearched t jitter (ends.All found) =
 AreSearched t jitter (ends.First before r) =
     (m : ℕ) × AreFindings t before.regions.items before.cells.items m × TellsModule t jitter m r
 
--- where nothing is left of a safe region at a grain of one unit, of a module that no other plant
--- concerns, no held region lies in it
+-- where the safe region of a module that no other plant concerns has none, nothing is left of it
 abbrev pub TellsFail : Tables → ℕ → ℕ → RegionsFail → Type 0
 TellsFail t jitter m fail =
-    (grain : List ℤ) (a : ModuleInfo) → fail ≡ causes.SafeNone grain → IsUnitGrain grain
-    → At t.modules m a → IsAlone t a → HasNoHeldRegion t jitter a
+    (grain : List ℤ) (a : ModuleInfo) → fail ≡ causes.SafeNone grain
+    → At t.modules m a → IsAlone t a → IsNothingLeft t jitter a grain
 
 -- cells for all modules of a program, of which so many are those that were found, and the others
 -- have none

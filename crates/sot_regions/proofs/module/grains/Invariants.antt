@@ -1,5 +1,5 @@
-use Rattle.sot_regions.specs.Searches.{TellFinest}
+use Rattle.sot_regions.specs.Grains.{TellGrains}
 use Rattle.sot_regions.proofs.module.grains.Given as goal
 
 abbrev pub invariant-loop-side : goal.invariant-loop-side
-invariant-loop-side l = TellFinest l.grid l.side l.numbers
+invariant-loop-side l = TellGrains l.grid l.side l.numbers

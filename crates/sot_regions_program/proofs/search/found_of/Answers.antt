@@ -5,7 +5,7 @@ use Rattle.sot_syntax_tree.specs.TreeViews.{program_view}
 use Rattle.sot_lang.specs.declared.tables.ModuleInfo.{ModuleInfo}
 use Rattle.sot_lang.specs.Tables.{Tables}
 use Rattle.sot_law_invariant_regions.specs.Following.{HasNoHeldRegion}
-use Rattle.sot_regions.specs.Grains.{IsUnitGrain}
+use Rattle.sot_regions.specs.Grains.{IsUnitGrain, HasNoClosedSetAt}
 use Rattle.sot_regions.specs.declared.found.FoundRegions.{FoundRegions}
 use Rattle.sot_regions.specs.declared.found.RegionsFail.{RegionsFail}
 use Rattle.sot_regions.specs.declared.found.RegionsFail.TheVariants.{SafeNone}
@@ -33,9 +33,10 @@ regions_of-requires-in-Ok c =
 -- what is known of each module is known of one that no other plant concerns
 tells_fail : (r : Result FoundRegions RegionsFail) (t : Tables) (jitter m : ℕ)
     → IfErr r (λ e. (grain : List ℤ) (a : ModuleInfo) → e ≡ SafeNone grain → IsUnitGrain grain → At t.modules m a → HasNoHeldRegion t jitter a)
+    → IfErr r (λ e. (grain : List ℤ) (a : ModuleInfo) → e ≡ SafeNone grain → At t.modules m a → HasNoClosedSetAt t jitter a grain)
     → IfErr r (TellsFail t jitter m)
-tells_fail (Ok found) t jitter m none = tt
-tells_fail (Err fail) t jitter m none = λ grain a is unit at alone. none grain a is unit at
+tells_fail (Ok found) t jitter m none closed = tt
+tells_fail (Err fail) t jitter m none closed = λ grain a is at alone. (closed grain a is at, λ unit. none grain a is unit at)
 
 pub returns-then-before-eq0 : goal.returns-then-before-eq0
-returns-then-before-eq0 c = tells_fail c.regions_of.result c.args.asked.tables.now c.args.asked.jitter c.args.«module» c.regions_of.ensures.none
+returns-then-before-eq0 c = tells_fail c.regions_of.result c.args.asked.tables.now c.args.asked.jitter c.args.«module» c.regions_of.ensures.none c.regions_of.ensures.closed
