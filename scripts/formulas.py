@@ -24,8 +24,9 @@ ELSEWHERE = {
 }
 TOKEN = re.compile(r'[ \t\r\n]+|#[^\n]*|([A-Za-z_][A-Za-z0-9_]*|[0-9]+(?:\.[0-9]+)?|:=|\.\.|[<>=!]=|.)', re.S)
 
-# kind: true, false, a word of PARTS or compare; parts: formulas; ref, sign, number, scale of a comparison; count of a within
-Formula = collections.namedtuple('Formula', 'kind at end parts ref sign number scale count')
+# kind: true, false, a word of PARTS or compare; parts: formulas; ref, sign, number, scale of a comparison; count of a within;
+# pair: the sign and the name of a second quantity on the left; other: the name on the right, where no number stands there
+Formula = collections.namedtuple('Formula', 'kind at end parts ref sign number scale count pair other', defaults=(None, None))
 
 
 def taken(word):
@@ -142,6 +143,9 @@ class Reader:
         return int(self.next())
 
     def comparison(self, at):
+        return self.compared(at, self.reference(at))
+
+    def reference(self, at):
         name = self.next()
         if name == 'mode' and self.now == '(':
             self.next()
@@ -157,14 +161,22 @@ class Reader:
             name += '.' + self.next()
         elif self.now == '(':
             raise BadFormula(at, f'there is no `{name}(..)`: a formula has {", ".join(PARTS)} and mode')
-        return self.compared(at, name)
+        return name
+
+    def pair(self):
+        """The second quantity of a sum or a difference."""
+        sign, at = self.next(), self.at
+        if not re.match(r'[A-Za-z_]', self.now):
+            self.fail(f'behind `{sign}` stands a name')
+        return sign, self.reference(at)
 
     def compared(self, at, name):
+        pair = self.pair() if self.now in ('+', '-') else None
         sign = self.now
         if sign == '=':
             self.fail('`=` is written `==`')
         if sign in ('+', '-', '*', '/', '%'):
-            self.fail('there is no arithmetic in a formula: on the left stands one name')
+            self.fail('on the left stands one name, or a sum or a difference of two')
         if sign not in COMPARISONS:
             self.fail(f'a comparison is missing behind `{name}`: of a truth value write `{name} == 1`')
         self.next()
@@ -174,11 +186,14 @@ class Reader:
         literal = self.now
         if literal in ('true', 'false'):
             self.fail(f'a truth value is compared with 1 or 0: write `{name} {sign} {int(literal == "true")}`')
+        if re.match(r'[A-Za-z_]', literal) and not pair and not negative:
+            other = self.reference(self.at)
+            return Formula('compare', at, self.at, (), name, sign, None, None, None, None, other)
         if not literal[:1].isdigit():
-            self.fail(f'on the right of `{sign}` stands a number' + (f', and not `{literal}`: two names are not compared' if re.match(r'[A-Za-z_]', literal) else ''))
+            self.fail(f'on the right of `{sign}` stands a number' + (f', and not `{literal}`' if re.match(r'[A-Za-z_]', literal) else ''))
         self.next()
         number = int(literal.replace('.', '')) * (-1 if negative else 1)
-        return Formula('compare', at, self.at, (), name, sign, number, len(literal.partition('.')[2]), None)
+        return Formula('compare', at, self.at, (), name, sign, number, len(literal.partition('.')[2]), None, pair)
 
 
 def formula_of(text):
@@ -191,6 +206,11 @@ def comparisons(formula):
         yield formula
     for part in formula.parts:
         yield from comparisons(part)
+
+
+def names_of(formula):
+    """What a comparison names."""
+    return [name for name in (formula.ref, formula.pair and formula.pair[1], formula.other) if name]
 
 
 # --- names ----------------------------------------------------------------------------------------------------------
@@ -262,7 +282,10 @@ def holds_at(formula, parts, before, i, now):
     if kind in ('true', 'false'):
         return kind == 'true'
     if kind == 'compare':
-        return COMPARISONS[formula.sign](now[formula.ref], formula.number)
+        left = now[formula.ref]
+        if formula.pair:
+            left += now[formula.pair[1]] * (1 if formula.pair[0] == '+' else -1)
+        return COMPARISONS[formula.sign](left, now[formula.other] if formula.other else formula.number)
     if kind == 'not':
         return not parts[0][i]
     if kind == 'and':
@@ -295,7 +318,8 @@ class Why:
     def lines(self, formula, i, wanted=True):
         """What a formula has at moment i, where it has not what is wanted."""
         if formula.kind == 'compare':
-            return [f'`{self.said(formula)}` {"fails" if wanted else "holds"} at moment {i}: `{formula.ref}` is {self.value(formula.ref, i)} there']
+            return [f'`{self.said(formula)}` {"fails" if wanted else "holds"} at moment {i}: '
+                    + ' and '.join(f'`{name}` is {self.value(name, i)}' for name in names_of(formula)) + ' there']
         if formula.kind == 'not':
             return self.lines(formula.parts[0], i, not wanted)
         if formula.kind in ('and', 'or'):
@@ -327,9 +351,13 @@ class Why:
 
 
 def scale_words(formula, program):
-    """A comparison whose literal has other decimals than its name."""
-    scale = scales_of(program).get(formula.ref)
-    if scale is None or scale == formula.scale:
+    """A comparison of two scales."""
+    scales = scales_of(program)
+    scale = scales.get(formula.ref)
+    for name in names_of(formula)[1:]:
+        if scales.get(name) != scale:
+            return f'`{formula.ref}` has {decimals(scale)}, and `{name}` has {decimals(scales[name])}' if scale is not None and name in scales else ''
+    if scale is None or formula.other or scale == formula.scale:
         return ''
     more = f': write `{decimal(formula.number * 10 ** (scale - formula.scale), scale)}`' if scale > formula.scale else f': write it with {decimals(scale)}'
     return f'`{formula.ref}` has {decimals(scale)}, and the number behind it has {decimals(formula.scale)}' + more

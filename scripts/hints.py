@@ -619,9 +619,10 @@ def about_formula(asked):
     except formulas.BadFormula as why:
         return caret(text, 1, why.at + 1) + [f'column {why.at + 1}: {why}']
     for said in formulas.comparisons(formula):
-        wrong = said.ref not in formulas.scales_of(asked.tables()) if kind == 'Unknown' else formulas.scale_words(said, asked.tables())
+        unknown = [name for name in formulas.names_of(said) if name not in formulas.scales_of(asked.tables())]
+        wrong = unknown if kind == 'Unknown' else formulas.scale_words(said, asked.tables())
         if wrong:
-            return caret(text, 1, said.at + 1) + [formulas.unknown_words(said.ref, asked.tables()) if kind == 'Unknown' else wrong]
+            return caret(text, 1, said.at + 1) + [formulas.unknown_words(unknown[0], asked.tables()) if kind == 'Unknown' else wrong]
     return []
 
 
@@ -637,7 +638,7 @@ def about_watch(asked):
     moments = formulas.moments_of(asked.tables(), missiontext.Trace(asked.whole))
     formula = formulas.formula_of(asked.words[0])
     why = formulas.Why(asked.words[0], asked.tables(), moments)
-    names = dict.fromkeys(said.ref for said in formulas.comparisons(formula))
+    names = dict.fromkeys(name for said in formulas.comparisons(formula) for name in formulas.names_of(said))
     values = ', '.join(f'{name} {why.value(name, time)}' for name in names)
     return why.lines(formula, time)[:6] + ([f'at moment {time}: {values}'] if len(names) > 1 else [])
 

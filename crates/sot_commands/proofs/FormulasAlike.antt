@@ -11,26 +11,27 @@ use Rattle.sot_law_equal_tables.proofs.Seen.{scalar_back, module_back, plant_bac
 use Rattle.sot_formula.specs.declared.quantity.Quantity.{Quantity}
 use Rattle.sot_formula.specs.declared.fail.MonitorFail.{MonitorFail}
 use Rattle.sot_formula.specs.declared.fail.MonitorFail.TheVariants as fails
-use Rattle.sot_formula.specs.Phrases.{Phrase, a_truth, a_single, a_double, a_row, a_within, a_comparison, Reference, a_mode, a_name, a_field, Literal}
+use Rattle.sot_formula.specs.Phrases.{Phrase, a_truth, a_single, a_double, a_row, a_within, a_comparison, Reference, a_mode, a_name, a_field}
+use Rattle.sot_formula.specs.Phrases.{Relation, to_number, to_another, of_two}
 use Rattle.sot_formula.specs.declared.words.Single.TheVariants as singles
 use Rattle.sot_formula.specs.declared.words.Double.TheVariants as doubles
 use Rattle.sot_formula.specs.Formulas.{Formula}
-use Rattle.sot_formula.specs.Meanings.{IsPlain, IsField, IsVariable, IsModule, Names, decimals, Means, HasComparison, HasUnknown, HasOtherScale}
+use Rattle.sot_formula.specs.Meanings.{IsPlain, IsField, IsVariable, IsModule, Names, decimals, NamesNothing, IsCompared, Means}
+use Rattle.sot_formula.specs.Meanings.{HasComparison, AsksNothing, HasTwoScales, HasUnknown, HasOtherScale}
 use Rattle.sot_formula.specs.Answers.{Refuses}
 use Rattle.sot_formula.proofs.Texts.{causes_exclude}
 use Rattle.sot_law_formula_meaning.proofs.Meanings.{mean_once}
 use Rattle.sot_commands.specs.Watched.{HasMeaning, IsFormula}
 
 -- what holds of each comparison of a text is changed for what follows from it
-compared_moved : (Of Then : Reference → Literal → Type 0) → ((r : Reference) (z : Literal) → Of r z → Then r z) → (f : Phrase) → HasComparison Of f
-    → HasComparison Then f
+compared_moved : (Of Then : Relation → Type 0) → ((c : Relation) → Of c → Then c) → (f : Phrase) → HasComparison Of f → HasComparison Then f
 compared_moved Of Then by (a_truth value t) has = absurd has
 compared_moved Of Then by (a_single o w begin f end) has = compared_moved Of Then by f has
 compared_moved Of Then by (a_double o w begin row end) has = compared_moved Of Then by row has
 compared_moved Of Then by (a_row o f comma g) (inl has) = inl (compared_moved Of Then by f has)
 compared_moved Of Then by (a_row o f comma g) (inr has) = inr (compared_moved Of Then by g has)
 compared_moved Of Then by (a_within w begin n comma f end) has = compared_moved Of Then by f has
-compared_moved Of Then by (a_comparison r by_sign z) has = by r z has
+compared_moved Of Then by (a_comparison c) has = by c has
 
 module _ (t u : Tables) (same : tables_seen t ≡ tables_seen u) where
   topic_moved : (k : ℕ) (x : TopicInfo) → At t.topics k x → At u.topics k x
@@ -83,11 +84,35 @@ module _ (t u : Tables) (same : tables_seen t ≡ tables_seen u) where
   names_moved (a_field n dot f) q scale (inr (k, v, is, named)) = inr (k, v, variable_moved n.text f.text k v scale is, named)
 
 module _ (t u : Tables) (same : tables_seen t ≡ tables_seen u) where
+  nothing_moved : (r : Reference) → NamesNothing t r → NamesNothing u r
+  nothing_moved r nothing q scale names = nothing q scale (names_moved u t (sym same) r q scale names)
+
+  asks_moved : (c : Relation) → AsksNothing t c → AsksNothing u c
+  asks_moved (to_number r by z) nothing = nothing_moved r nothing
+  asks_moved (to_another r by q) (inl nothing) = inl (nothing_moved r nothing)
+  asks_moved (to_another r by q) (inr nothing) = inr (nothing_moved q nothing)
+  asks_moved (of_two r pair q by z) (inl nothing) = inl (nothing_moved r nothing)
+  asks_moved (of_two r pair q by z) (inr nothing) = inr (nothing_moved q nothing)
+
+  scales_moved : (c : Relation) → HasTwoScales t c → HasTwoScales u c
+  scales_moved (to_number r by z) (q, scale, names, differs) = (q, scale, names_moved t u same r q scale names, differs)
+  scales_moved (to_another r by q) (a, b, m, n, names, named, differs) =
+      (a, b, m, n, names_moved t u same r a m names, names_moved t u same q b n named, differs)
+  scales_moved (of_two r pair q by z) (a, b, m, n, names, named, differs) =
+      (a, b, m, n, names_moved t u same r a m names, names_moved t u same q b n named, differs)
+
   unknown_moved : (f : Phrase) → HasUnknown t f → HasUnknown u f
-  unknown_moved f has = compared_moved _ _ (λ r z nothing q scale names. nothing q scale (names_moved u t (sym same) r q scale names)) f has
+  unknown_moved f has = compared_moved (AsksNothing t) (AsksNothing u) asks_moved f has
 
   scale_moved : (f : Phrase) → HasOtherScale t f → HasOtherScale u f
-  scale_moved f has = compared_moved _ _ (λ r z (q, scale, names, differs). (q, scale, names_moved t u same r q scale names, differs)) f has
+  scale_moved f has = compared_moved (HasTwoScales t) (HasTwoScales u) scales_moved f has
+
+  relation_moved : (c : Relation) (x : Formula) → IsCompared t c x → IsCompared u c x
+  relation_moved (to_number r by z) x (q, c, names, sign, is) = (q, c, names_moved t u same r q (decimals z) names, sign, is)
+  relation_moved (to_another r by q) x (a, b, c, m, names, named, sign, is) =
+      (a, b, c, m, names_moved t u same r a m names, names_moved t u same q b m named, sign, is)
+  relation_moved (of_two r pair q by z) x (a, b, j, c, names, named, paired, sign, is) =
+      (a, b, j, c, names_moved t u same r a (decimals z) names, names_moved t u same q b (decimals z) named, paired, sign, is)
 
 -- a formula that a phrase means for one is what it means for the other
 means_moved : (t u : Tables) → tables_seen t ≡ tables_seen u → (f : Phrase) (x : Formula) → Means t f x → Means u f x
@@ -101,7 +126,7 @@ means_moved t u same (a_row doubles.Or f comma g) x (y, z, m, k, is) = (y, z, me
 means_moved t u same (a_row doubles.Since f comma g) x (y, z, m, k, is) = (y, z, means_moved t u same f y m, means_moved t u same g z k, is)
 means_moved t u same (a_row doubles.Implies f comma g) x (y, z, m, k, is) = (y, z, means_moved t u same f y m, means_moved t u same g z k, is)
 means_moved t u same (a_within w begin n comma f end) x (y, m, is) = (y, means_moved t u same f y m, is)
-means_moved t u same (a_comparison r by z) x (q, c, names, sign, is) = (q, c, names_moved t u same r q (decimals z) names, sign, is)
+means_moved t u same (a_comparison c) x m = relation_moved t u same c x m
 
 -- a text means one formula
 pub one_meaning : (t u : Tables) → tables_seen t ≡ tables_seen u → MeetsTableRules u → (bytes : List ℕ) (x y : Formula) → IsFormula t bytes x

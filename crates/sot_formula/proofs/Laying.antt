@@ -9,6 +9,8 @@ use Rattle.sot_expression.specs.Lexemes.{IsSign, IsName, is_sign, is_keyword, is
 use Rattle.sot_expression.proofs.TokenTests.{sign_ok, keyword_ok, name_ok, sign_is, keyword_is, name_is}
 use Rattle.sot_formula.specs.declared.quantity.Comparison.{Comparison}
 use Rattle.sot_formula.specs.declared.quantity.Comparison.TheVariants as comparisons
+use Rattle.sot_formula.specs.declared.quantity.Pairing.{Pairing}
+use Rattle.sot_formula.specs.declared.quantity.Pairing.TheVariants as pairings
 use Rattle.sot_formula.specs.declared.what.What.TheVariants as whats
 use Rattle.sot_formula.specs.declared.words.Single.TheVariants as singles
 use Rattle.sot_formula.specs.declared.words.Double.TheVariants as doubles
@@ -19,11 +21,12 @@ use Rattle.sot_formula.specs.declared.words.Word.TheVariants as words
 use Rattle.sot_formula.specs.declared.finding.FoundQuantity.{FoundQuantity}
 use Rattle.sot_formula.specs.Phrases.{Reference, a_mode, a_name, a_field, Literal, a_number}
 use Rattle.sot_formula.specs.Phrases.{a_negative, Phrase, a_truth, a_single, a_double, a_row, a_within, a_comparison}
-use Rattle.sot_formula.specs.Phrases.{IsSingle, IsDouble, IsTruth, IsComparing}
-use Rattle.sot_formula.specs.Meanings.{sign_text}
-use Rattle.sot_formula.specs.Words.{comparing_of, opening_of, word_of, single_what, double_what}
+use Rattle.sot_formula.specs.Phrases.{Relation, to_number, to_another, of_two}
+use Rattle.sot_formula.specs.Phrases.{IsSingle, IsDouble, IsTruth, IsComparing, IsPairing}
+use Rattle.sot_formula.specs.Meanings.{sign_text, pair_text}
+use Rattle.sot_formula.specs.Words.{comparing_of, pairing_of, opening_of, word_of, single_what, double_what}
 use Rattle.sot_formula.specs.Finding.{plain_named, part_named, module_named}
-use Rattle.sot_formula.specs.Reading.{Laid, place, put, compared, ticks_of}
+use Rattle.sot_formula.specs.Reading.{Laid, place, put, compared, against, paired, ticks_of}
 
 abbrev pub found_of : Tables → Reference → Option FoundQuantity
 found_of p (a_mode w begin n end) = module_named p n.text
@@ -41,6 +44,19 @@ abbrev pub lit_of : Literal → Lit
 lit_of (a_number n) = literal n
 lit_of (a_negative minus n) = negative_literal minus n
 
+abbrev pub or_sum : Option Pairing → Pairing
+or_sum None = pairings.Sum
+or_sum (Some j) = j
+
+abbrev pub pair_of : Lexeme → Pairing
+pair_of t = or_sum (pairing_of t)
+
+-- the part of a comparison, behind others
+abbrev pub laid_relation : Tables → Relation → Laid → Laid
+laid_relation p (to_number r by z) s = compared (found_of p r) (by_of by) (lit_of z) s
+laid_relation p (to_another r by q) s = against (found_of p r) (by_of by) (found_of p q) s
+laid_relation p (of_two r pair q by z) s = paired (found_of p r) (pair_of pair) (found_of p q) (by_of by) (lit_of z) s
+
 -- the parts of a phrase, behind others
 abbrev pub laid : Tables → Phrase → Laid → Laid
 laid p (a_truth value t) s = put (whats.Truth value) s
@@ -48,7 +64,7 @@ laid p (a_single o w begin f end) s = put (single_what o (place (laid p f s))) (
 laid p (a_double o w begin row end) s = laid p row s
 laid p (a_row o f comma g) s = put (double_what o (place (laid p f s)) (place (laid p g (laid p f s)))) (laid p g (laid p f s))
 laid p (a_within w begin n comma f end) s = put (whats.Within (ticks_of (literal n)) (place (laid p f s))) (laid p f s)
-laid p (a_comparison r by z) s = compared (found_of p r) (by_of by) (lit_of z) s
+laid p (a_comparison c) s = laid_relation p c s
 
 -- a choice of a list of cases
 case_by : {A : Type 0} (P : A → Type 0) (b : Bool) (x rest : A) → (b ≡ true → P x) → P rest → P (cond b x rest)
@@ -81,7 +97,7 @@ IsWordOf name words.Within = name ≡ codes "within"
 IsWordOf name words.Mode = name ≡ codes "mode"
 IsWordOf name words.Other = Unit {0}
 
-same_word : (name word : List ℕ) → bytes_eq name word ≡ true → name ≡ word
+pub same_word : (name word : List ℕ) → bytes_eq name word ≡ true → name ≡ word
 same_word name word e = (bytes_eq-Decides name word).0 e
 
 pub word_tells : (name : List ℕ) → IsWordOf name (word_of name)
@@ -138,6 +154,40 @@ some_sign t (inr (inr (inl is))) = (comparisons.Greater, is)
 some_sign t (inr (inr (inr (inl is)))) = (comparisons.GreaterEqual, is)
 some_sign t (inr (inr (inr (inr (inl is))))) = (comparisons.Equal, is)
 some_sign t (inr (inr (inr (inr (inr is))))) = (comparisons.NotEqual, is)
+
+-- the sign of a sum or a difference
+abbrev IsPaired : Lexeme → Option Pairing → Type 0
+IsPaired t None = Unit {0}
+IsPaired t (Some j) = IsSign (pair_text j) t
+
+pairing_tells : (t : Lexeme) → IsPaired t (pairing_of t)
+pairing_tells t =
+    let P = IsPaired t in
+    case_by P (is_sign (codes "+") t) (Some pairings.Sum) _ (sign_ok (codes "+") t)
+    (case_by P (is_sign (codes "-") t) (Some pairings.Difference) None (sign_ok (codes "-") t) tt)
+
+pub pair_signed : (t : Lexeme) (j : Pairing) → pairing_of t ≡ Some j → IsSign (pair_text j) t
+pair_signed t j e = subst (IsPaired t) e (pairing_tells t)
+
+pub pairs : (j : Pairing) (t : Lexeme) → IsSign (pair_text j) t → IsPairing t
+pairs pairings.Sum t is = inl is
+pairs pairings.Difference t is = inr is
+
+pub pair_signs : (j : Pairing) (t : Lexeme) → IsSign (pair_text j) t → pairing_of t ≡ Some j
+pair_signs pairings.Sum t is = ap pairing_of (sign_is (codes "+") t is)
+pair_signs pairings.Difference t is = ap pairing_of (sign_is (codes "-") t is)
+
+pub some_pair : (t : Lexeme) → IsPairing t → (j : Pairing) × IsSign (pair_text j) t
+some_pair t (inl is) = (pairings.Sum, is)
+some_pair t (inr is) = (pairings.Difference, is)
+
+pub no_pair : (c : Comparison) (t : Lexeme) → IsSign (sign_text c) t → pairing_of t ≡ None
+no_pair comparisons.Less t is = ap pairing_of (sign_is (codes "<") t is)
+no_pair comparisons.LessEqual t is = ap pairing_of (sign_is (codes "<=") t is)
+no_pair comparisons.Greater t is = ap pairing_of (sign_is (codes ">") t is)
+no_pair comparisons.GreaterEqual t is = ap pairing_of (sign_is (codes ">=") t is)
+no_pair comparisons.Equal t is = ap pairing_of (sign_is (codes "==") t is)
+no_pair comparisons.NotEqual t is = ap pairing_of (sign_is (codes "!=") t is)
 
 -- the openings of phrases
 pub truth_opens : (value : Bool) (t : Lexeme) → IsTruth value t → opening_of t ≡ openings.Truth value

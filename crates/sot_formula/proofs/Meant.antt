@@ -15,20 +15,22 @@ use Rattle.sot_syntax_tree.specs.declared.tree.Lit.{Lit}
 use Rattle.sot_expression.specs.Lexemes.{literal}
 use Rattle.sot_formula.specs.declared.quantity.Quantity.{Quantity}
 use Rattle.sot_formula.specs.declared.quantity.Comparison.{Comparison}
+use Rattle.sot_formula.specs.declared.quantity.Pairing.{Pairing}
 use Rattle.sot_formula.specs.declared.what.What.{What}
 use Rattle.sot_formula.specs.declared.what.What.TheVariants as whats
 use Rattle.sot_formula.specs.declared.words.Single.TheVariants as singles
 use Rattle.sot_formula.specs.declared.words.Double.{Double}
 use Rattle.sot_formula.specs.declared.words.Double.TheVariants as doubles
 use Rattle.sot_formula.specs.declared.finding.FoundQuantity.{FoundQuantity}
-use Rattle.sot_formula.specs.Formulas.{Formula, Truth, Compared, Not, And, Or, Implies, Once, Always, Since, Within}
+use Rattle.sot_formula.specs.Formulas.{Formula, Truth, Compared, Against, Paired, Not, And, Or, Implies, Once, Always, Since, Within}
+use Rattle.sot_formula.specs.Phrases.{Relation, to_number, to_another, of_two, IsRelation, IsComparing}
 use Rattle.sot_formula.specs.Phrases.{Reference, a_mode, a_name, a_field, Literal, a_number, a_negative}
-use Rattle.sot_formula.specs.Phrases.{Phrase, a_truth, a_single, a_double, a_row, a_within, a_comparison, StandsIn, IsPhrase}
+use Rattle.sot_formula.specs.Phrases.{Phrase, a_truth, a_single, a_double, a_row, a_within, a_comparison, StandsIn}
 use Rattle.sot_formula.specs.Meanings.{Names, mantissa, decimals, IsCompared, Means}
 use Rattle.sot_formula.specs.Parts.{IsPart, part_count, IsThere}
-use Rattle.sot_formula.specs.Reading.{Laid, place, put, compared, ticks_of}
+use Rattle.sot_formula.specs.Reading.{Laid, place, put, compared, against, paired, ticks_of}
 use Rattle.sot_formula.proofs.Finds.{plain_found, plain_finds, part_found, part_finds_field, part_finds_variable, module_found, module_finds}
-use Rattle.sot_formula.proofs.Laying.{found_of, or_less, by_of, lit_of, laid, some_sign, signs}
+use Rattle.sot_formula.proofs.Laying.{found_of, or_less, by_of, or_sum, pair_of, lit_of, laid_relation, laid, some_sign, signs, some_pair, pair_signs}
 
 -- the last of a list
 at_last : {A : Type 0} (xs : List A) (x : A) → At (xs ++ x ∷ []) (length xs) x
@@ -50,6 +52,8 @@ at_either (z ∷ xs) x (suc i) y at = ⊎_elim (λ a. inl a) (λ b. inr ((let e 
 pub part_stays : (ws more : List What) (i : ℕ) (f : Formula) → IsPart ws i f → IsPart (ws ++ more) i f
 part_stays ws more i (Truth value) at = at_front ws more i _ at
 part_stays ws more i (Compared of by number) at = at_front ws more i _ at
+part_stays ws more i (Against of by other) at = at_front ws more i _ at
+part_stays ws more i (Paired first pairing second by number) at = at_front ws more i _ at
 part_stays ws more i (Not f) h = (h.0, at_front ws more i _ h.1, h.2, part_stays ws more h.0 f h.3)
 part_stays ws more i (And f g) h = (h.0, h.1, at_front ws more i _ h.2, h.3, h.4, part_stays ws more h.0 f h.5, part_stays ws more h.1 g h.6)
 part_stays ws more i (Or f g) h = (h.0, h.1, at_front ws more i _ h.2, h.3, h.4, part_stays ws more h.0 f h.5, part_stays ws more h.1 g h.6)
@@ -77,6 +81,21 @@ compared_extends : (o : Option FoundQuantity) (by : Comparison) (z : Lit) (s : L
 compared_extends None by z s = put_extends s _ (whats.Truth false) refl
 compared_extends (Some x) by z s = put_extends s _ (whats.Compared x.of by z.mantissa) refl
 
+against_extends : (o : Option FoundQuantity) (by : Comparison) (u : Option FoundQuantity) (s : Laid) → Extends s (against o by u s)
+against_extends None by u s = put_extends s _ (whats.Truth false) refl
+against_extends (Some x) by None s = put_extends s _ (whats.Truth false) refl
+against_extends (Some x) by (Some y) s = put_extends s _ (whats.Against x.of by y.of) refl
+
+paired_extends : (o : Option FoundQuantity) (j : Pairing) (u : Option FoundQuantity) (by : Comparison) (z : Lit) (s : Laid) → Extends s (paired o j u by z s)
+paired_extends None j u by z s = put_extends s _ (whats.Truth false) refl
+paired_extends (Some x) j None by z s = put_extends s _ (whats.Truth false) refl
+paired_extends (Some x) j (Some y) by z s = put_extends s _ (whats.Paired x.of j y.of by z.mantissa) refl
+
+relation_extends : (p : Tables) (c : Relation) (s : Laid) → Extends s (laid_relation p c s)
+relation_extends p (to_number r by z) s = compared_extends (found_of p r) (by_of by) (lit_of z) s
+relation_extends p (to_another r by q) s = against_extends (found_of p r) (by_of by) (found_of p q) s
+relation_extends p (of_two r pair q by z) s = paired_extends (found_of p r) (pair_of pair) (found_of p q) (by_of by) (lit_of z) s
+
 pub extends : (p : Tables) (f : Phrase) (s : Laid) → Extends s (laid p f s)
 extends p (a_truth value t) s = put_extends s _ (whats.Truth value) refl
 extends p (a_single o w begin f end) s = then_extends s (laid p f s) _ (extends p f s) (put_extends (laid p f s) _ _ refl)
@@ -85,7 +104,7 @@ extends p (a_row o f comma g) s =
     then_extends s (laid p f s) _ (extends p f s) (then_extends (laid p f s) (laid p g (laid p f s)) _ (extends p g (laid p f s))
     (put_extends (laid p g (laid p f s)) _ _ refl))
 extends p (a_within w begin n comma f end) s = then_extends s (laid p f s) _ (extends p f s) (put_extends (laid p f s) _ _ refl)
-extends p (a_comparison r by z) s = compared_extends (found_of p r) (by_of by) (lit_of z) s
+extends p (a_comparison c) s = relation_extends p c s
 
 module _ (p : Tables) (rules : MeetsTableRules p) where
   -- what is found is named, and what is named is found
@@ -160,6 +179,22 @@ one_compared : (o : Option FoundQuantity) (by : Comparison) (z : Lit) (s : Laid)
 one_compared None by z s = length_last s.whats (whats.Truth false)
 one_compared (Some x) by z s = length_last s.whats (whats.Compared x.of by z.mantissa)
 
+one_against : (o : Option FoundQuantity) (by : Comparison) (u : Option FoundQuantity) (s : Laid) → length (against o by u s).whats ≡ suc (length s.whats)
+one_against None by u s = length_last s.whats (whats.Truth false)
+one_against (Some x) by None s = length_last s.whats (whats.Truth false)
+one_against (Some x) by (Some y) s = length_last s.whats (whats.Against x.of by y.of)
+
+one_paired : (o : Option FoundQuantity) (j : Pairing) (u : Option FoundQuantity) (by : Comparison) (z : Lit) (s : Laid)
+    → length (paired o j u by z s).whats ≡ suc (length s.whats)
+one_paired None j u by z s = length_last s.whats (whats.Truth false)
+one_paired (Some x) j None by z s = length_last s.whats (whats.Truth false)
+one_paired (Some x) j (Some y) by z s = length_last s.whats (whats.Paired x.of j y.of by z.mantissa)
+
+one_relation : (p : Tables) (c : Relation) (s : Laid) → length (laid_relation p c s).whats ≡ suc (length s.whats)
+one_relation p (to_number r by z) s = one_compared (found_of p r) (by_of by) (lit_of z) s
+one_relation p (to_another r by q) s = one_against (found_of p r) (by_of by) (found_of p q) s
+one_relation p (of_two r pair q by z) s = one_paired (found_of p r) (pair_of pair) (found_of p q) (by_of by) (lit_of z) s
+
 module _ (p : Tables) (rules : MeetsTableRules p) where
   -- where nothing is unknown and no scale differs, the phrase means its last part
   pub record IsMeant (f : Phrase) (s : Laid) : Type 0 where
@@ -170,27 +205,92 @@ module _ (p : Tables) (rules : MeetsTableRules p) where
     pub known : s.unknown ≡ false
     pub same : s.differs ≡ false
 
-  compared_meant : (r : Reference) (by : Lexeme) (z : Literal) (s : Laid) (o : Option FoundQuantity) → found_of p r ≡ o → IsPhrase (a_comparison r by z)
+  -- a comparison means its part
+  abbrev RelationMeant : Relation → Laid → Laid → Type 0
+  RelationMeant c s t = (x : Formula) × IsCompared p c x × IsPart t.whats (place t) x × (part_count x ≡ 1) × (s.unknown ≡ false) × (s.differs ≡ false)
+
+  compared_meant : (r : Reference) (by : Lexeme) (z : Literal) (s : Laid) (o : Option FoundQuantity) → found_of p r ≡ o → IsComparing by
       → (compared o (by_of by) (lit_of z) s).unknown ≡ false → (compared o (by_of by) (lit_of z) s).differs ≡ false
-      → (x : Formula) × IsCompared p r by z x × IsPart (compared o (by_of by) (lit_of z) s).whats (place (compared o (by_of by) (lit_of z) s)) x
-      × (s.unknown ≡ false) × (s.differs ≡ false)
+      → RelationMeant (to_number r by z) s (compared o (by_of by) (lit_of z) s)
   compared_meant r by z s None e is known same = absurd (false≢true (sym known))
   compared_meant r by z s (Some x) e is known same =
       let flags = or_false s.differs (not (x.scale == (lit_of z).scale)) same in
       let scale : x.scale ≡ decimals z = differs_false x.scale (lit_of z).scale flags.1 ∙ (lit_number z).1 in
-      let c = some_sign by is.1 in
-      let sign : by_of by ≡ c.0 = ap or_less (signs c.0 by c.1) in (
+      let c = some_sign by is in
+      let sign : by_of by ≡ c.0 = ap or_less (signs c.0 by c.1) in
+      let w' = whats.Compared x.of (by_of by) (lit_of z).mantissa in
+      let is_what : w' ≡ whats.Compared x.of c.0 (mantissa z) =
+      ap (λ b. whats.Compared x.of b (lit_of z).mantissa) sign ∙ ap (λ m. whats.Compared x.of c.0 m) (lit_number z).0 in (
         Compared x.of c.0 (mantissa z),
         (x.of, c.0, subst (Names p r x.of) scale (found_names p rules r x e), c.1, refl),
-        subst (λ b. At (s.whats ++ whats.Compared x.of (by_of by) (lit_of z).mantissa ∷ []) (place (compared (Some x) (by_of by) (lit_of z) s))
-            (whats.Compared x.of b (mantissa z)))
-            sign
-            (subst (λ m. At (s.whats ++ whats.Compared x.of (by_of by) (lit_of z).mantissa ∷ []) (place (compared (Some x) (by_of by) (lit_of z) s))
-            (whats.Compared x.of (by_of by) m))
-            (lit_number z).0 (last_put s (whats.Compared x.of (by_of by) (lit_of z).mantissa))),
+        subst (At (s.whats ++ w' ∷ []) (place (put w' s))) is_what (last_put s w'),
+        refl,
         known,
         flags.0,
       )
+
+  against_meant : (r : Reference) (by : Lexeme) (q : Reference) (s : Laid) (o u : Option FoundQuantity) → found_of p r ≡ o → found_of p q ≡ u → IsComparing by
+      → (against o (by_of by) u s).unknown ≡ false → (against o (by_of by) u s).differs ≡ false
+      → RelationMeant (to_another r by q) s (against o (by_of by) u s)
+  against_meant r by q s None u e e' is known same = absurd (false≢true (sym known))
+  against_meant r by q s (Some x) None e e' is known same = absurd (false≢true (sym known))
+  against_meant r by q s (Some x) (Some y) e e' is known same =
+      let flags = or_false s.differs (not (x.scale == y.scale)) same in
+      let scale : x.scale ≡ y.scale = differs_false x.scale y.scale flags.1 in
+      let c = some_sign by is in
+      let sign : by_of by ≡ c.0 = ap or_less (signs c.0 by c.1) in
+      let w' = whats.Against x.of (by_of by) y.of in (
+        Against x.of c.0 y.of,
+        (x.of, y.of, c.0, y.scale, subst (Names p r x.of) scale (found_names p rules r x e), found_names p rules q y e', c.1, refl),
+        subst (At (s.whats ++ w' ∷ []) (place (put w' s))) (ap (λ b. whats.Against x.of b y.of) sign) (last_put s w'),
+        refl,
+        known,
+        flags.0,
+      )
+
+  paired_meant : (r : Reference) (pair : Lexeme) (q : Reference) (by : Lexeme) (z : Literal) (s : Laid) (o u : Option FoundQuantity) → found_of p r ≡ o
+      → found_of p q ≡ u → IsRelation (of_two r pair q by z)
+      → (paired o (pair_of pair) u (by_of by) (lit_of z) s).unknown ≡ false → (paired o (pair_of pair) u (by_of by) (lit_of z) s).differs ≡ false
+      → RelationMeant (of_two r pair q by z) s (paired o (pair_of pair) u (by_of by) (lit_of z) s)
+  paired_meant r pair q by z s None u e e' is known same = absurd (false≢true (sym known))
+  paired_meant r pair q by z s (Some x) None e e' is known same = absurd (false≢true (sym known))
+  paired_meant r pair q by z s (Some x) (Some y) e e' is known same =
+      let flags = or_false s.differs (not (x.scale == (lit_of z).scale) || not (y.scale == (lit_of z).scale)) same in
+      let both = or_false (not (x.scale == (lit_of z).scale)) (not (y.scale == (lit_of z).scale)) flags.1 in
+      let scale : x.scale ≡ decimals z = differs_false x.scale (lit_of z).scale both.0 ∙ (lit_number z).1 in
+      let other : y.scale ≡ decimals z = differs_false y.scale (lit_of z).scale both.1 ∙ (lit_number z).1 in
+      let c = some_sign by is.3 in
+      let sign : by_of by ≡ c.0 = ap or_less (signs c.0 by c.1) in
+      let j = some_pair pair is.1 in
+      let pairing : pair_of pair ≡ j.0 = ap or_sum (pair_signs j.0 pair j.1) in
+      let w' = whats.Paired x.of (pair_of pair) y.of (by_of by) (lit_of z).mantissa in
+      let is_what : w' ≡ whats.Paired x.of j.0 y.of c.0 (mantissa z) =
+      ap (λ k. whats.Paired x.of k y.of (by_of by) (lit_of z).mantissa) pairing
+      ∙ ap (λ b. whats.Paired x.of j.0 y.of b (lit_of z).mantissa) sign
+      ∙ ap (λ m. whats.Paired x.of j.0 y.of c.0 m) (lit_number z).0 in (
+        Paired x.of j.0 y.of c.0 (mantissa z),
+        (
+          x.of,
+          y.of,
+          j.0,
+          c.0,
+          subst (Names p r x.of) scale (found_names p rules r x e),
+          subst (Names p q y.of) other (found_names p rules q y e'),
+          j.1,
+          c.1,
+          refl,
+        ),
+        subst (At (s.whats ++ w' ∷ []) (place (put w' s))) is_what (last_put s w'),
+        refl,
+        known,
+        flags.0,
+      )
+
+  relation_meant : (c : Relation) (s : Laid) → IsRelation c → (laid_relation p c s).unknown ≡ false → (laid_relation p c s).differs ≡ false
+      → RelationMeant c s (laid_relation p c s)
+  relation_meant (to_number r by z) s is known same = compared_meant r by z s (found_of p r) refl is.1 known same
+  relation_meant (to_another r by q) s is known same = against_meant r by q s (found_of p r) (found_of p q) refl refl is.1 known same
+  relation_meant (of_two r pair q by z) s is known same = paired_meant r pair q by z s (found_of p r) (found_of p q) refl refl is known same
 
   pub meant : (f : Phrase) (word : Option Double) (s : Laid) → StandsIn f word → (laid p f s).unknown ≡ false → (laid p f s).differs ≡ false → IsMeant f s
   meant (a_truth value t) word s is known same =
@@ -348,8 +448,8 @@ module _ (p : Tables) (rules : MeetsTableRules p) where
         known = g.known;
         same = g.same;
       }
-  meant (a_comparison r by z) word s is known same =
-      let h = compared_meant r by z s (found_of p r) refl is known same in
-      let n = one_compared (found_of p r) (by_of by) (lit_of z) s in
-      let one : part_count h.0 ≡ 1 = ap part_count h.1.4 in
-      record { formula = h.0; means = h.1; part = h.2; count = omega (arith, n, one); known = h.3; same = h.4 }
+  meant (a_comparison c) word s is known same =
+      let h = relation_meant c s is known same in
+      let n = one_relation p c s in
+      let one = h.3 in
+      record { formula = h.0; means = h.1; part = h.2; count = omega (arith, n, one); known = h.4; same = h.5 }

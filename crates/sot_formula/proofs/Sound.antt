@@ -1,6 +1,6 @@
 -- What is read is a phrase, and leaves its parts.
 use Rattle.std.proofs.Common.{◌≡◌, ℕ, zero, suc, ◌≤◌, ◌+◌, ◌-◌, ◌&&◌, ◌==◌, List, [], ◌∷◌, Bool, true, false}
-use Rattle.std.proofs.Common.{pos, codes, Option, Some, None, Ok, refl, sym, ap, ap₂, subst, ◌∙◌, arith}
+use Rattle.std.proofs.Common.{pos, codes, cond, Option, Some, None, Ok, Err, refl, sym, ap, ap₂, subst, ◌∙◌, arith}
 use Rattle.std.specs.Prelude.{int_le}
 use Rattle.std.proofs.lemmas.Int.{clamps}
 use Rattle.std.proofs.lemmas.Bool.Decides.{nat_tests}
@@ -9,11 +9,12 @@ use Rattle.sot_text.specs.Reading.{Lexeme}
 use Rattle.sot_lang.specs.Tables.{Tables}
 use Rattle.sot_syntax_tree.specs.declared.tree.Lit.{Lit}
 use Rattle.sot_expression.specs.Lexemes.{IsSign, IsName, begins, is_sign, is_name, literal}
-use Rattle.sot_expression.specs.Readers.{◌>>=◌, expect, number_at, negative_at, literal_at}
+use Rattle.sot_expression.specs.Readers.{◌>>=◌, stuck, expect, number_at, negative_at, literal_at}
 use Rattle.sot_expression.specs.Stream.{first_of}
 use Rattle.sot_expression.proofs.TokenTests.{sign_ok, name_ok}
 use Rattle.sot_expression.proofs.ReadSteps.{bind_ok, ok_is, guard_ok, chosen_by, one_token_ok, sign_taken, number_taken, negative_taken}
 use Rattle.sot_formula.specs.declared.quantity.Comparison.{Comparison}
+use Rattle.sot_formula.specs.declared.quantity.Pairing.{Pairing}
 use Rattle.sot_formula.specs.declared.what.What.TheVariants as whats
 use Rattle.sot_formula.specs.declared.words.Single.{Single}
 use Rattle.sot_formula.specs.declared.words.Double.{Double}
@@ -23,16 +24,19 @@ use Rattle.sot_formula.specs.declared.words.FormulaOpening.TheVariants as openin
 use Rattle.sot_formula.specs.declared.words.Word.{Word}
 use Rattle.sot_formula.specs.declared.words.Word.TheVariants as words
 use Rattle.sot_formula.specs.declared.finding.FoundQuantity.{FoundQuantity}
+use Rattle.sot_formula.specs.Phrases.{Reference, Relation, to_number, to_another, of_two, reference_spelled, relation_spelled, IsReference, IsRelation}
 use Rattle.sot_formula.specs.Phrases.{a_mode, a_name, a_field, Literal, a_number, a_negative, Phrase, a_truth, a_single, a_double, a_row, a_within, a_comparison}
 use Rattle.sot_formula.specs.Phrases.{literal_spelled, spelled, IsWord, IsSingle, IsDouble, IsLiteral, IsComparing, AreTicks, IsPhrase, levels_of}
 use Rattle.sot_formula.specs.Phrases.{row_length, most_parts, HasParts, StandsIn}
-use Rattle.sot_formula.specs.Words.{comparing_of, opening_of, opening_from, word_of, single_what, double_what}
+use Rattle.sot_formula.specs.Words.{comparing_of, pairing_of, is_mode, opening_of, opening_from, word_of, single_what, double_what}
 use Rattle.sot_formula.specs.Finding.{plain_named, part_named, module_named}
-use Rattle.sot_formula.specs.Reading.{Laid, place, put, compared, Reader, name_token}
+use Rattle.sot_formula.specs.Reading.{Laid, place, put, compared, against, paired, Reader, name_token}
+use Rattle.sot_formula.specs.Reading.{reference_at, behind_reference_at, other_at, alone_at, paired_at, tail_at}
 use Rattle.sot_formula.specs.Reading.{any_token, found_or_stuck, comparing_at, comparison_at, ticks_of, are_ticks, ticks_at}
 use Rattle.sot_formula.specs.Reading.{single_at, joined_at, more_at, row_at, double_at, within_at, mode_at, mode_compared_at}
 use Rattle.sot_formula.specs.Reading.{part_at, named_at, called_at, behind_name_at, opened_at, formula_at}
-use Rattle.sot_formula.proofs.Laying.{or_less, by_of, lit_of, laid, IsOpened, opening_tells, IsWordOf, word_tells, signed, compares}
+use Rattle.sot_formula.proofs.Laying.{found_of, or_less, by_of, or_sum, pair_of, lit_of, laid_relation, laid, IsOpened, opening_tells, IsWordOf, word_tells}
+use Rattle.sot_formula.proofs.Laying.{same_word, signed, compares, pair_signed, pairs}
 
 abbrev Got : Type 0
 Got = Laid × List Lexeme
@@ -70,26 +74,133 @@ literal_sound (t ∷ us) x e =
     (λ minus read. (let n = negative_taken t us x read in (a_negative t n.0, (sign_ok (codes "-") t minus, n.2), ap (λ vs. t ∷ vs) n.1, n.3)))
     (λ other read. (let n = number_taken (t ∷ us) x read in (a_number n.0, n.2, n.1, n.3)))
 
-abbrev IsComparedBy : Option FoundQuantity → Laid → List Lexeme → Got → Type 0
-IsComparedBy found s ts x =
-    (by : Lexeme) × (z : Literal) × IsComparing by × IsLiteral z × (ts ≡ by ∷ literal_spelled z x.1) × (x.0 ≡ compared found (by_of by) (lit_of z) s)
+-- a reference that was read
+abbrev Found : Type 0
+Found = Option FoundQuantity × List Lexeme
 
-comparison_sound : (found : Option FoundQuantity) (s : Laid) (ts : List Lexeme) (x : Got) → comparison_at found s ts ≡ Ok x → IsComparedBy found s ts x
-unfolding comparison_at
-comparison_sound found s ts x e =
+abbrev IsReferenceBy : Tables → List Lexeme → Found → Type 0
+IsReferenceBy p ts x = (r : Reference) × IsReference r × (ts ≡ reference_spelled r x.1) × (x.0 ≡ found_of p r)
+
+mode_sound : (p : Tables) (w : Lexeme) (ts : List Lexeme) (x : Found) → IsWord (codes "mode") w → mode_at p ts ≡ Ok x → IsReferenceBy p (w ∷ ts) x
+unfolding mode_at
+mode_sound p w ts x word e =
+    let b = bind_ok (expect (is_sign (codes "(")) ts) _ x e in
+    let begin = sign_taken (codes "(") ts b.0 b.1 in
+    let k = bind_ok (name_token b.0.1) _ x b.2 in
+    let n = name_taken b.0.1 k.0 k.1 in
+    let c = bind_ok (expect (is_sign (codes ")")) k.0.1) _ x k.2 in
+    let end = sign_taken (codes ")") k.0.1 c.0 c.1 in
+    let is : ◌≡◌ {A = Found} (module_named p k.0.0.text, c.0.1) x = ok_is (module_named p k.0.0.text, c.0.1) x c.2 in (
+      a_mode w begin.0 k.0.0 end.0,
+      (word, begin.2, n.0, end.2),
+      ap (λ vs. w ∷ vs) (begin.1 ∙ ap (λ vs. begin.0 ∷ vs) (n.1 ∙ ap (λ vs. k.0.0 ∷ vs) (end.1 ∙ ap (λ (z : Found). end.0 ∷ z.1) is))),
+      sym (ap (λ (z : Found). z.0) is),
+    )
+
+part_sound : (p : Tables) (n : Lexeme) (ts : List Lexeme) (x : Found) → IsName n → part_at p n ts ≡ Ok x → IsReferenceBy p (n ∷ ts) x
+unfolding part_at
+part_sound p n ts x name e =
+    let b = bind_ok (expect (is_sign (codes ".")) ts) _ x e in
+    let dot = sign_taken (codes ".") ts b.0 b.1 in
+    let k = bind_ok (name_token b.0.1) _ x b.2 in
+    let f = name_taken b.0.1 k.0 k.1 in
+    let is : ◌≡◌ {A = Found} (part_named p n.text k.0.0.text, k.0.1) x = ok_is (part_named p n.text k.0.0.text, k.0.1) x k.2 in (
+      a_field n dot.0 k.0.0,
+      (name, dot.2, f.0),
+      ap (λ vs. n ∷ vs) (dot.1 ∙ ap (λ vs. dot.0 ∷ vs) (f.1 ∙ ap (λ (z : Found). k.0.0 ∷ z.1) is)),
+      sym (ap (λ (z : Found). z.0) is),
+    )
+
+behind_reference_sound : (p : Tables) (n : Lexeme) (ts : List Lexeme) (x : Found) → IsName n → behind_reference_at p n ts ≡ Ok x → IsReferenceBy p (n ∷ ts) x
+unfolding behind_reference_at
+behind_reference_sound p n ts x name e =
+    chosen_by (begins (is_sign (codes "(")) ts) (cond (is_mode n.text) (mode_at p ts) (Err (stuck, ts)))
+    (cond (begins (is_sign (codes ".")) ts) (part_at p n ts) (Ok (plain_named p n.text, ts))) x (IsReferenceBy p (n ∷ ts) x) e
+    (λ opens read.
+    let g = guard_ok (is_mode n.text) (mode_at p ts) (stuck, ts) x read in
+    mode_sound p n ts x (record { name = name; text_is = same_word n.text (codes "mode") g.0 }) g.1)
+    (λ other read. chosen_by (begins (is_sign (codes ".")) ts) (part_at p n ts) (Ok (plain_named p n.text, ts)) x (IsReferenceBy p (n ∷ ts) x) read
+    (λ point part. part_sound p n ts x name part)
+    (λ none' plain.
+    let is : ◌≡◌ {A = Found} (plain_named p n.text, ts) x = ok_is (plain_named p n.text, ts) x plain in
+    (a_name n, name, ap (λ (z : Found). n ∷ z.1) is, sym (ap (λ (z : Found). z.0) is))))
+
+reference_sound : (p : Tables) (ts : List Lexeme) (x : Found) → reference_at p ts ≡ Ok x → IsReferenceBy p ts x
+unfolding reference_at
+reference_sound p ts x e =
+    let n = bind_ok (name_token ts) _ x e in
+    let taken = name_taken ts n.0 n.1 in
+    let h = behind_reference_sound p n.0.0 n.0.1 x taken.0 n.2 in
+    (h.0, h.1, taken.1 ∙ h.2, h.3)
+
+-- what stands behind a reference
+abbrev IsRelatedBy : Tables → Reference → Laid → List Lexeme → Got → Type 0
+IsRelatedBy p r s ts x = (c : Relation) × IsRelation c × (reference_spelled r ts ≡ relation_spelled c x.1) × (x.0 ≡ laid_relation p c s)
+
+alone_sound : (p : Tables) (r : Reference) (s : Laid) (ts : List Lexeme) (x : Got) → IsReference r → alone_at p (found_of p r) s ts ≡ Ok x
+    → IsRelatedBy p r s ts x
+unfolding alone_at other_at
+alone_sound p r s ts x ref e =
+    let f = found_of p r in
     let b = bind_ok (comparing_at ts) _ x e in
     let by = comparing_sound ts b.0 b.1 in
+    let sign : by_of by.0 ≡ b.0.0 = ap or_less by.2 in
+    let is_by = compares b.0.0 by.0 (signed by.0 b.0.0 by.2) in
+    chosen_by (begins is_name b.0.1) (reference_at p b.0.1 >>= λ q. Ok (against f b.0.0 q.0 s, q.1)) (literal_at b.0.1 >>= λ z. Ok (compared f b.0.0 z.0 s, z.1)) x
+    (IsRelatedBy p r s ts x) b.2
+    (λ name read.
+    let q = bind_ok (reference_at p b.0.1) _ x read in
+    let h = reference_sound p b.0.1 q.0 q.1 in
+    let is = ok_is (against f b.0.0 q.0.0 s, q.0.1) x q.2 in (
+      to_another r by.0 h.0,
+      (ref, is_by, h.1),
+      ap (reference_spelled r) (by.1 ∙ ap (λ vs. by.0 ∷ vs) (h.2 ∙ ap (λ (y : Got). reference_spelled h.0 y.1) is)),
+      sym (ap (λ (y : Got). y.0) is) ∙ ap (λ c. against f c q.0.0 s) (sym sign) ∙ ap (λ o. against f (by_of by.0) o s) h.3,
+    ))
+    (λ other read.
+    let c = bind_ok (literal_at b.0.1) _ x read in
+    let z = literal_sound b.0.1 c.0 c.1 in
+    let is = ok_is (compared f b.0.0 c.0.0 s, c.0.1) x c.2 in (
+      to_number r by.0 z.0,
+      (ref, is_by, z.1),
+      ap (reference_spelled r) (by.1 ∙ ap (λ vs. by.0 ∷ vs) (z.2 ∙ ap (λ (y : Got). literal_spelled z.0 y.1) is)),
+      sym (ap (λ (y : Got). y.0) is) ∙ ap (λ k. compared f k c.0.0 s) (sym sign) ∙ ap (λ l. compared f (by_of by.0) l s) z.3,
+    ))
+
+paired_sound : (p : Tables) (r : Reference) (j : Pairing) (s : Laid) (t : Lexeme) (us : List Lexeme) (x : Got) → IsReference r → pairing_of t ≡ Some j
+    → paired_at p (found_of p r) j s (t ∷ us) ≡ Ok x → IsRelatedBy p r s (t ∷ us) x
+unfolding paired_at
+paired_sound p r j s t us x ref e_pair e =
+    let f = found_of p r in
+    let q = bind_ok (reference_at p us) _ x e in
+    let h = reference_sound p us q.0 q.1 in
+    let b = bind_ok (comparing_at q.0.1) _ x q.2 in
+    let by = comparing_sound q.0.1 b.0 b.1 in
     let c = bind_ok (literal_at b.0.1) _ x b.2 in
     let z = literal_sound b.0.1 c.0 c.1 in
-    let is = ok_is (compared found b.0.0 c.0.0 s, c.0.1) x c.2 in
-    let sign : by_of by.0 ≡ b.0.0 = ap or_less by.2 in (
-      by.0,
-      z.0,
-      compares b.0.0 by.0 (signed by.0 b.0.0 by.2),
-      z.1,
-      by.1 ∙ ap (λ vs. by.0 ∷ vs) (z.2 ∙ ap (λ (y : Got). literal_spelled z.0 y.1) is),
-      sym (ap (λ (y : Got). y.0) is) ∙ ap (λ l. compared found b.0.0 l s) z.3 ∙ ap (λ c. compared found c (lit_of z.0) s) (sym sign),
+    let is = ok_is (paired f j q.0.0 b.0.0 c.0.0 s, c.0.1) x c.2 in
+    let sign : by_of by.0 ≡ b.0.0 = ap or_less by.2 in
+    let pair : pair_of t ≡ j = ap or_sum e_pair in (
+      of_two r t h.0 by.0 z.0,
+      (ref, pairs j t (pair_signed t j e_pair), h.1, compares b.0.0 by.0 (signed by.0 b.0.0 by.2), z.1),
+      ap (λ vs. reference_spelled r (t ∷ vs))
+          (h.2 ∙ ap (reference_spelled h.0) (by.1 ∙ ap (λ vs. by.0 ∷ vs) (z.2 ∙ ap (λ (y : Got). literal_spelled z.0 y.1) is))),
+      sym (ap (λ (y : Got). y.0) is)
+          ∙ ap (λ o. paired f j o b.0.0 c.0.0 s) h.3
+          ∙ ap (λ k. paired f k (found_of p h.0) b.0.0 c.0.0 s) (sym pair)
+          ∙ ap (λ k. paired f (pair_of t) (found_of p h.0) k c.0.0 s) (sym sign)
+          ∙ ap (λ l. paired f (pair_of t) (found_of p h.0) (by_of by.0) l s) z.3,
     )
+
+comparison_sound : (p : Tables) (r : Reference) (s : Laid) (ts : List Lexeme) (x : Got) → IsReference r → comparison_at p (found_of p r) s ts ≡ Ok x
+    → IsRelatedBy p r s ts x
+unfolding comparison_at tail_at
+comparison_sound p r s [] x ref e = alone_sound p r s [] x ref e
+comparison_sound p r s (t ∷ us) x ref e = from (pairing_of t) refl e
+  where
+    from : (o : Option Pairing) → pairing_of t ≡ o → tail_at p (found_of p r) o s (t ∷ us) ≡ Ok x → IsRelatedBy p r s (t ∷ us) x
+    from None is read = alone_sound p r s (t ∷ us) x ref read
+    from (Some j) is read = paired_sound p r j s t us x ref is read
 
 few_ticks : (m d : ℕ) → ((d == 0) && int_le (pos m) (pos 100000)) ≡ true → (d ≡ 0) × (m ≤ 100000)
 few_ticks m d e = (let b = both_true (d == 0) (int_le (pos m) (pos 100000)) e in (grind (arith, nat_tests), grind (arith, nat_tests)))
@@ -115,7 +226,7 @@ may_join (a_single q w begin f end) o is = is
 may_join (a_double q w begin row end) o is = is
 may_join (a_row q f comma g) o is = absurd is.0
 may_join (a_within w begin n comma f end) o is = is
-may_join (a_comparison r by z) o is = is
+may_join (a_comparison c) o is = is
 
 alone_length : (f : Phrase) → IsPhrase f → row_length f ≡ 1
 alone_length (a_truth value t) is = refl
@@ -123,7 +234,7 @@ alone_length (a_single q w begin f end) is = refl
 alone_length (a_double q w begin row end) is = refl
 alone_length (a_row q f comma g) is = absurd is.0
 alone_length (a_within w begin n comma f end) is = refl
-alone_length (a_comparison r by z) is = refl
+alone_length (a_comparison c) is = refl
 
 two_joined : (o : Double) → 2 ≤ most_parts o
 two_joined doubles.And = omega arith
@@ -283,51 +394,28 @@ module _ (p : Tables) (r : ℕ) (inner : Reader) (only : OnlyPhrases p r inner) 
         sym (ap (λ (y : Got). y.0) is) ∙ ap₂ (λ k l. put (whats.Within k (place l)) l) n.3 f.4,
       )
 
-  -- a comparison of a mode
-  mode_sound : (w : Lexeme) (s : Laid) (ts : List Lexeme) (x : Got) → IsWord (codes "mode") w → mode_compared_at p s ts ≡ Ok x → IsLaidBy p (suc r) s (w ∷ ts) x
-  unfolding mode_compared_at mode_at
-  mode_sound w s ts x word e =
+  -- a comparison, from its first reference on
+  related_phrase : (ts us : List Lexeme) (o : Option FoundQuantity) (s : Laid) (x : Got) → IsReferenceBy p ts (o, us) → comparison_at p o s us ≡ Ok x
+      → IsLaidBy p (suc r) s ts x
+  related_phrase ts us o s x h e =
+      let c = comparison_sound p h.0 s us x h.1 (subst (λ (f : Option FoundQuantity). comparison_at p f s us ≡ Ok x) h.3 e) in
+      (a_comparison c.0, c.1, h.2 ∙ c.2, omega arith, c.3)
+
+  mode_phrase : (w : Lexeme) (s : Laid) (ts : List Lexeme) (x : Got) → IsWord (codes "mode") w → mode_compared_at p s ts ≡ Ok x → IsLaidBy p (suc r) s (w ∷ ts) x
+  unfolding mode_compared_at
+  mode_phrase w s ts x word e =
       let a = bind_ok (mode_at p ts) _ x e in
-      let b = bind_ok (expect (is_sign (codes "(")) ts) _ a.0 a.1 in
-      let begin = sign_taken (codes "(") ts b.0 b.1 in
-      let k = bind_ok (name_token b.0.1) _ a.0 b.2 in
-      let n = name_taken b.0.1 k.0 k.1 in
-      let c = bind_ok (expect (is_sign (codes ")")) k.0.1) _ a.0 k.2 in
-      let end = sign_taken (codes ")") k.0.1 c.0 c.1 in
-      let is : ◌≡◌ {A = Option FoundQuantity × List Lexeme} (module_named p k.0.0.text, c.0.1) a.0 = ok_is (module_named p k.0.0.text, c.0.1) a.0 c.2 in
-      let h = comparison_sound a.0.0 s a.0.1 x a.2 in (
-        a_comparison (a_mode w begin.0 k.0.0 end.0) h.0 h.1,
-        ((word, begin.2, n.0, end.2), h.2, h.3),
-        ap (λ vs. w ∷ vs)
-            (begin.1 ∙ ap (λ vs. begin.0 ∷ vs)
-            (n.1 ∙ ap (λ vs. k.0.0 ∷ vs) (end.1 ∙ ap (λ (z : Option FoundQuantity × List Lexeme). end.0 ∷ z.1) is ∙ ap (λ vs. end.0 ∷ vs) h.4))),
-        omega arith,
-        h.5 ∙ ap (λ (o : Option FoundQuantity). compared o (by_of h.0) (lit_of h.1) s) (sym (ap (λ (z : Option FoundQuantity × List Lexeme). z.0) is)),
-      )
+      related_phrase (w ∷ ts) a.0.1 a.0.0 s x (mode_sound p w ts a.0 word a.1) a.2
 
   -- a comparison of what a name names
   named_sound : (n : Lexeme) (s : Laid) (ts : List Lexeme) (x : Got) → IsName n → named_at p n s ts ≡ Ok x → IsLaidBy p (suc r) s (n ∷ ts) x
-  unfolding named_at part_at
+  unfolding named_at
   named_sound n s ts x name e =
-      chosen_by (begins (is_sign (codes ".")) ts) (part_at p n ts >>= λ r. comparison_at r.0 s r.1) (comparison_at (plain_named p n.text) s ts) x _ e
+      chosen_by (begins (is_sign (codes ".")) ts) (part_at p n ts >>= λ r. comparison_at p r.0 s r.1) (comparison_at p (plain_named p n.text) s ts) x _ e
       (λ point read.
       let a = bind_ok (part_at p n ts) _ x read in
-      let b = bind_ok (expect (is_sign (codes ".")) ts) _ a.0 a.1 in
-      let dot = sign_taken (codes ".") ts b.0 b.1 in
-      let k = bind_ok (name_token b.0.1) _ a.0 b.2 in
-      let f = name_taken b.0.1 k.0 k.1 in
-      let is : ◌≡◌ {A = Option FoundQuantity × List Lexeme} (part_named p n.text k.0.0.text, k.0.1) a.0 = ok_is (part_named p n.text k.0.0.text, k.0.1) a.0 k.2 in
-      let h = comparison_sound a.0.0 s a.0.1 x a.2 in (
-        a_comparison (a_field n dot.0 k.0.0) h.0 h.1,
-        ((name, dot.2, f.0), h.2, h.3),
-        ap (λ vs. n ∷ vs)
-            (dot.1 ∙ ap (λ vs. dot.0 ∷ vs) (f.1 ∙ ap (λ (z : Option FoundQuantity × List Lexeme). k.0.0 ∷ z.1) is ∙ ap (λ vs. k.0.0 ∷ vs) h.4)),
-        omega arith,
-        h.5 ∙ ap (λ (o : Option FoundQuantity). compared o (by_of h.0) (lit_of h.1) s) (sym (ap (λ (z : Option FoundQuantity × List Lexeme). z.0) is)),
-      ))
-      (λ other read.
-      let h = comparison_sound (plain_named p n.text) s ts x read in
-      (a_comparison (a_name n) h.0 h.1, (name, h.2, h.3), ap (λ vs. n ∷ vs) h.4, omega arith, h.5))
+      related_phrase (n ∷ ts) a.0.1 a.0.0 s x (part_sound p n ts a.0 name a.1) a.2)
+      (λ other read. related_phrase (n ∷ ts) ts (plain_named p n.text) s x (a_name n, name, refl, refl) read)
 
   single_phrase : (o : Single) (w : Lexeme) (s : Laid) (ts : List Lexeme) (x : Got) → IsSingle o w → single_at o inner s ts ≡ Ok x
       → IsLaidBy p (suc r) s (w ∷ ts) x
@@ -349,7 +437,7 @@ module _ (p : Tables) (r : ℕ) (inner : Reader) (only : OnlyPhrases p r inner) 
   called_sound words.Within w s ts x name is e =
       let h = within_sound s ts x e in
       (a_within w h.0 h.1 h.2 h.3 h.4, (record { name = name; text_is = is }, h.5, h.6, h.7, h.8, h.9), ap (λ vs. w ∷ vs) h.10, omega (arith, h.11), h.12)
-  called_sound words.Mode w s ts x name is e = mode_sound w s ts x (record { name = name; text_is = is }) e
+  called_sound words.Mode w s ts x name is e = mode_phrase w s ts x (record { name = name; text_is = is }) e
   called_sound words.Other w s ts x name is e = absurd cc
 
   behind_sound : (w : Lexeme) (s : Laid) (ts : List Lexeme) (x : Got) → IsName w → behind_name_at p inner w s ts ≡ Ok x → IsLaidBy p (suc r) s (w ∷ ts) x

@@ -42,7 +42,7 @@ read_text p bytes f text =
     let b : Ahead = record { tokens = spelled f []; end = None } in
     let same : ahead_from bytes 0 ≡ b = comes_unique bytes 0 (ahead_from bytes 0) b (ahead_comes bytes 0) text.tokens in
     subst (λ (a : Ahead). (formula_at p 64 none_laid a.tokens ≡ Ok (laid p f none_laid, [])) × (a.end ≡ None)) (sym same)
-    (full p 64 f none_laid [] text.phrase text.levels, refl)
+    (full p 64 f none_laid [] text.phrase text.levels (refl, refl), refl)
 
 abbrev Got : Type 0
 Got = Laid × List Lexeme
@@ -92,7 +92,7 @@ module _ (p : Tables) (rules : MeetsTableRules p) (bytes : List ℕ) (short : le
   none_placed i w at = absurd (none-some w at)
 
   none_there : AreThere p none_laid.whats
-  none_there i q by number at = absurd (none-some _ at)
+  none_there i w q at looks = absurd (none-some _ at)
 
   pub judged_reads : (s : Laid) (ws : List What) → IsAllRead p bytes s → s.unknown ≡ false → s.differs ≡ false → ws ≡ s.whats → IsRead p bytes ws
   judged_reads s ws read known same is =

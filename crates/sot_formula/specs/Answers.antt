@@ -32,8 +32,8 @@ pub record IsUnknown (p : Tables) (bytes : List ℕ) : Type 0 where
   pub text : IsFormulaText bytes phrase
   pub unknown : HasUnknown p phrase
 
--- the bytes are the text of a formula, each reference in it names something, and some literal has
--- another scale than that
+-- the bytes are the text of a formula, each reference in it names something, and some comparison
+-- has two scales
 pub record IsOfOtherScale (p : Tables) (bytes : List ℕ) : Type 0 where
   pub phrase : Phrase
   pub text : IsFormulaText bytes phrase
@@ -48,7 +48,7 @@ Refuses p bytes fails.ScaleDiffers = IsOfOtherScale p bytes
 Refuses p bytes fails.Memory = Unit {0}
 
 -- where some formula of the text has a meaning, no formula of the text has an unknown reference or
--- a literal of another scale; and where one has an unknown reference, all have
+-- a comparison of two scales; and where one has an unknown reference, all have
 pub record CausesExclude (p : Tables) (bytes : List ℕ) (f g : Phrase) : Type 0 where
   pub known : (x : Formula) → Means p f x → HasUnknown p g → ⊥
   pub same : (x : Formula) → Means p f x → HasOtherScale p g → ⊥

@@ -2,10 +2,15 @@
 use Rattle.std.specs.Prelude.{ℕ, ℤ, Bool}
 use Rattle.sot_formula.specs.declared.quantity.Quantity.{Quantity}
 use Rattle.sot_formula.specs.declared.quantity.Comparison.{Comparison}
+use Rattle.sot_formula.specs.declared.quantity.Pairing.{Pairing}
 
 pub data Formula : Type 0 where
   Truth : (value : Bool) → Formula
   Compared : (of : Quantity) (by : Comparison) (number : ℤ) → Formula
+  Against : (of : Quantity) (by : Comparison) (other : Quantity) → Formula
+  -- a sum or a difference is compared
+  Paired : (first : Quantity) (pairing : Pairing) (second : Quantity) (by : Comparison)
+      (number : ℤ) → Formula
   Not : (f : Formula) → Formula
   And Or : (f g : Formula) → Formula
   -- g, if f

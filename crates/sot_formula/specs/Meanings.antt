@@ -15,11 +15,14 @@ use Rattle.sot_formula.specs.declared.quantity.Quantity.{Quantity}
 use Rattle.sot_formula.specs.declared.quantity.Quantity.TheVariants.{Scalar, State, Mode}
 use Rattle.sot_formula.specs.declared.quantity.Comparison.{Comparison}
 use Rattle.sot_formula.specs.declared.quantity.Comparison.TheVariants as comparisons
+use Rattle.sot_formula.specs.declared.quantity.Pairing.{Pairing}
+use Rattle.sot_formula.specs.declared.quantity.Pairing.TheVariants as pairings
 use Rattle.sot_formula.specs.declared.words.Single.TheVariants as singles
 use Rattle.sot_formula.specs.declared.words.Double.TheVariants as doubles
-use Rattle.sot_formula.specs.Formulas.{Formula, Truth, Compared, Not, And, Or, Implies, Once}
-use Rattle.sot_formula.specs.Formulas.{Always, Since, Within}
+use Rattle.sot_formula.specs.Formulas.{Formula, Truth, Compared, Against, Paired, Not, And, Or}
+use Rattle.sot_formula.specs.Formulas.{Implies, Once, Always, Since, Within}
 use Rattle.sot_formula.specs.Phrases.{Reference, a_mode, a_name, a_field, Literal, a_number}
+use Rattle.sot_formula.specs.Phrases.{Relation, to_number, to_another, of_two}
 use Rattle.sot_formula.specs.Phrases.{a_negative, Phrase, a_truth, a_single, a_double, a_row}
 use Rattle.sot_formula.specs.Phrases.{a_within, a_comparison}
 
@@ -94,11 +97,22 @@ sign_text comparisons.GreaterEqual = codes ">="
 sign_text comparisons.Equal = codes "=="
 sign_text comparisons.NotEqual = codes "!="
 
--- a comparison of what is named, by this sign, with a literal of its scale
-abbrev pub IsCompared : Tables → Reference → Lexeme → Literal → Formula → Type 0
-IsCompared p r by z x =
+abbrev pub pair_text : Pairing → List ℕ
+pair_text pairings.Sum = codes "+"
+pair_text pairings.Difference = codes "-"
+
+-- a comparison by this sign, of one scale throughout
+abbrev pub IsCompared : Tables → Relation → Formula → Type 0
+IsCompared p (to_number r by z) x =
     (q : Quantity) × (c : Comparison) × Names p r q (decimals z) × IsSign (sign_text c) by
     × (x ≡ Compared q c (mantissa z))
+IsCompared p (to_another r by q) x =
+    (a b : Quantity) × (c : Comparison) × (scale : ℕ) × Names p r a scale × Names p q b scale
+    × IsSign (sign_text c) by × (x ≡ Against a c b)
+IsCompared p (of_two r pair q by z) x =
+    (a b : Quantity) × (j : Pairing) × (c : Comparison) × Names p r a (decimals z)
+    × Names p q b (decimals z) × IsSign (pair_text j) pair × IsSign (sign_text c) by
+    × (x ≡ Paired a j b c (mantissa z))
 
 -- a formula's text means this formula; a row is joined from the left
 abbrev pub Means : Tables → Phrase → Formula → Type 0
@@ -118,23 +132,35 @@ Means p (a_row doubles.Implies f comma g) x =
     (y z : Formula) × Means p f y × Means p g z × (x ≡ Implies y z)
 Means p (a_within w begin n comma f end) x =
     (y : Formula) × Means p f y × (x ≡ Within (mantissa_of n.text) y)
-Means p (a_comparison r by z) x = IsCompared p r by z x
+Means p (a_comparison c) x = IsCompared p c x
 
 -- some comparison of the text has this property
-abbrev pub HasComparison : (Reference → Literal → Type 0) → Phrase → Type 0
+abbrev pub HasComparison : (Relation → Type 0) → Phrase → Type 0
 HasComparison Of (a_truth value t) = ⊥
 HasComparison Of (a_single o w begin f end) = HasComparison Of f
 HasComparison Of (a_double o w begin row end) = HasComparison Of row
 HasComparison Of (a_row o f comma g) = HasComparison Of f ⊎ HasComparison Of g
 HasComparison Of (a_within w begin n comma f end) = HasComparison Of f
-HasComparison Of (a_comparison r by z) = Of r z
+HasComparison Of (a_comparison c) = Of c
 
--- some reference names nothing
+-- a reference of it names nothing
+abbrev pub AsksNothing : Tables → Relation → Type 0
+AsksNothing p (to_number r by z) = NamesNothing p r
+AsksNothing p (to_another r by q) = NamesNothing p r ⊎ NamesNothing p q
+AsksNothing p (of_two r pair q by z) = NamesNothing p r ⊎ NamesNothing p q
+
 abbrev pub HasUnknown : Tables → Phrase → Type 0
-HasUnknown p f = HasComparison (λ r z. NamesNothing p r) f
+HasUnknown p f = HasComparison (AsksNothing p) f
 
--- some literal has another scale than what is named
+-- it has two scales
+abbrev pub HasTwoScales : Tables → Relation → Type 0
+HasTwoScales p (to_number r by z) =
+    (q : Quantity) × (scale : ℕ) × Names p r q scale × (scale ≢ decimals z)
+HasTwoScales p (to_another r by q) =
+    (a b : Quantity) × (m n : ℕ) × Names p r a m × Names p q b n × (m ≢ n)
+HasTwoScales p (of_two r pair q by z) =
+    (a b : Quantity) × (m n : ℕ) × Names p r a m × Names p q b n
+    × ((m ≢ decimals z) ⊎ (n ≢ decimals z))
+
 abbrev pub HasOtherScale : Tables → Phrase → Type 0
-HasOtherScale p f =
-    HasComparison
-    (λ r z. (q : Quantity) × (scale : ℕ) × Names p r q scale × (scale ≢ decimals z)) f
+HasOtherScale p f = HasComparison (HasTwoScales p) f

@@ -20,6 +20,15 @@ pub data Literal : Type 0 where
   a_number : (n : Lexeme) → Literal
   a_negative : (minus n : Lexeme) → Literal
 
+-- one comparison
+pub data Relation : Type 0 where
+  -- ref sign lit
+  to_number : (r : Reference) (by : Lexeme) (z : Literal) → Relation
+  -- ref sign ref
+  to_another : (r : Reference) (by : Lexeme) (q : Reference) → Relation
+  -- ref ("+" | "-") ref sign lit
+  of_two : (r : Reference) (pair : Lexeme) (q : Reference) (by : Lexeme) (z : Literal) → Relation
+
 pub data Phrase : Type 0 where
   -- "true", "false"
   a_truth : (value : Bool) (t : Lexeme) → Phrase
@@ -31,8 +40,7 @@ pub data Phrase : Type 0 where
   a_row : (o : Double) (f : Phrase) (comma : Lexeme) (g : Phrase) → Phrase
   -- "within" "(" NUMBER "," mon ")"
   a_within : (w begin n comma : Lexeme) (f : Phrase) (end : Lexeme) → Phrase
-  -- ref ("<" | "<=" | ">" | ">=" | "==" | "!=") lit
-  a_comparison : (r : Reference) (by : Lexeme) (z : Literal) → Phrase
+  a_comparison : (c : Relation) → Phrase
 
 -- the tokens, and some behind them
 abbrev pub reference_spelled : Reference → List Lexeme → List Lexeme
@@ -44,13 +52,19 @@ abbrev pub literal_spelled : Literal → List Lexeme → List Lexeme
 literal_spelled (a_number n) ts = n ∷ ts
 literal_spelled (a_negative minus n) ts = minus ∷ n ∷ ts
 
+abbrev pub relation_spelled : Relation → List Lexeme → List Lexeme
+relation_spelled (to_number r by z) ts = reference_spelled r (by ∷ literal_spelled z ts)
+relation_spelled (to_another r by q) ts = reference_spelled r (by ∷ reference_spelled q ts)
+relation_spelled (of_two r pair q by z) ts =
+    reference_spelled r (pair ∷ reference_spelled q (by ∷ literal_spelled z ts))
+
 abbrev pub spelled : Phrase → List Lexeme → List Lexeme
 spelled (a_truth value t) ts = t ∷ ts
 spelled (a_single o w begin f end) ts = w ∷ begin ∷ spelled f (end ∷ ts)
 spelled (a_double o w begin row end) ts = w ∷ begin ∷ spelled row (end ∷ ts)
 spelled (a_row o f comma g) ts = spelled f (comma ∷ spelled g ts)
 spelled (a_within w begin n comma f end) ts = w ∷ begin ∷ n ∷ comma ∷ spelled f (end ∷ ts)
-spelled (a_comparison r by z) ts = reference_spelled r (by ∷ literal_spelled z ts)
+spelled (a_comparison c) ts = relation_spelled c ts
 
 -- a name of this text, which has a meaning of its own here
 pub record IsWord (text : List ℕ) (t : Lexeme) : Type 0 where
@@ -82,10 +96,20 @@ abbrev pub IsLiteral : Literal → Type 0
 IsLiteral (a_number n) = IsNumber n
 IsLiteral (a_negative minus n) = IsSign (codes "-") minus × IsNumber n
 
+-- "<", "<=", ">", ">=", "==", "!="
 abbrev pub IsComparing : Lexeme → Type 0
 IsComparing t =
     IsSign (codes "<") t ⊎ IsSign (codes "<=") t ⊎ IsSign (codes ">") t ⊎ IsSign (codes ">=") t
     ⊎ IsSign (codes "==") t ⊎ IsSign (codes "!=") t
+
+abbrev pub IsPairing : Lexeme → Type 0
+IsPairing t = IsSign (codes "+") t ⊎ IsSign (codes "-") t
+
+abbrev pub IsRelation : Relation → Type 0
+IsRelation (to_number r by z) = IsReference r × IsComparing by × IsLiteral z
+IsRelation (to_another r by q) = IsReference r × IsComparing by × IsReference q
+IsRelation (of_two r pair q by z) =
+    IsReference r × IsPairing pair × IsReference q × IsComparing by × IsLiteral z
 
 -- a whole number of ticks, at most 100,000
 pub record AreTicks (n : Lexeme) : Type 0 where
@@ -100,7 +124,7 @@ row_length (a_single o w begin f end) = 1
 row_length (a_double o w begin row end) = 1
 row_length (a_row o f comma g) = row_length f + 1
 row_length (a_within w begin n comma f end) = 1
-row_length (a_comparison r by z) = 1
+row_length (a_comparison c) = 1
 
 -- how many a word joins at most; at least it joins two
 abbrev pub most_parts : Double → ℕ
@@ -130,7 +154,7 @@ StandsIn (a_row o f comma g) word =
 StandsIn (a_within w begin n comma f end) word =
     IsWord (codes "within") w × IsSign (codes "(") begin × AreTicks n × IsSign (codes ",") comma
     × StandsIn f None × IsSign (codes ")") end
-StandsIn (a_comparison r by z) word = IsReference r × IsComparing by × IsLiteral z
+StandsIn (a_comparison c) word = IsRelation c
 
 abbrev pub IsPhrase : Phrase → Type 0
 IsPhrase f = StandsIn f None
@@ -142,7 +166,7 @@ levels_of (a_single o w begin f end) = 1 + levels_of f
 levels_of (a_double o w begin row end) = 1 + levels_of row
 levels_of (a_row o f comma g) = max (levels_of f) (levels_of g)
 levels_of (a_within w begin n comma f end) = 1 + levels_of f
-levels_of (a_comparison r by z) = 1
+levels_of (a_comparison c) = 1
 
 -- the bytes, at most 16,777,216, are the text of this formula, of at most 64 levels
 pub record IsFormulaText (bytes : List ℕ) (f : Phrase) : Type 0 where

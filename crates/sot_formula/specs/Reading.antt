@@ -11,6 +11,7 @@ use Rattle.sot_expression.specs.Readers.{Read, ◌>>=◌, stuck, deep, one_token
 use Rattle.sot_expression.specs.Readers.{literal_at}
 use Rattle.sot_expression.specs.Stream.{first_of}
 use Rattle.sot_formula.specs.declared.quantity.Comparison.{Comparison}
+use Rattle.sot_formula.specs.declared.quantity.Pairing.{Pairing}
 use Rattle.sot_formula.specs.declared.what.What.{What}
 use Rattle.sot_formula.specs.declared.what.What.TheVariants as whats
 use Rattle.sot_formula.specs.declared.words.Single.{Single}
@@ -21,11 +22,12 @@ use Rattle.sot_formula.specs.declared.words.Word.{Word}
 use Rattle.sot_formula.specs.declared.words.Word.TheVariants as words
 use Rattle.sot_formula.specs.declared.finding.FoundQuantity.{FoundQuantity}
 use Rattle.sot_formula.specs.Phrases.{most_parts}
-use Rattle.sot_formula.specs.Words.{comparing_from, opening_from, word_of, single_what, double_what}
+use Rattle.sot_formula.specs.Words.{comparing_from, pairing_from, opening_from, word_of, is_mode}
+use Rattle.sot_formula.specs.Words.{single_what, double_what}
 use Rattle.sot_formula.specs.Finding.{plain_named, part_named, module_named}
 
--- the parts so far, whether some reference named nothing, and whether some literal had another
--- scale
+-- the parts so far, whether some reference named nothing, and whether some comparison had two
+-- scales
 pub record Laid : Type 0 where
   pub whats : List What
   pub unknown : Bool
@@ -51,6 +53,32 @@ compared (Some x) by z s = record {
   differs = s.differs || not (x.scale == z.scale);
 }
 
+-- a part in the place of a comparison whose reference named nothing
+abbrev pub unnamed : Laid → Laid
+unnamed s =
+    record { whats = s.whats ++ whats.Truth false ∷ []; unknown = true; differs = s.differs }
+
+-- two quantities compared
+abbrev pub against : Option FoundQuantity → Comparison → Option FoundQuantity → Laid → Laid
+against None by other s = unnamed s
+against (Some x) by None s = unnamed s
+against (Some x) by (Some y) s = record {
+  whats = s.whats ++ whats.Against x.of by y.of ∷ [];
+  unknown = s.unknown;
+  differs = s.differs || not (x.scale == y.scale);
+}
+
+-- two quantities together
+abbrev pub paired : Option FoundQuantity → Pairing → Option FoundQuantity → Comparison → Lit → Laid
+    → Laid
+paired None j other by z s = unnamed s
+paired (Some x) j None by z s = unnamed s
+paired (Some x) j (Some y) by z s = record {
+  whats = s.whats ++ whats.Paired x.of j y.of by z.mantissa ∷ [];
+  unknown = s.unknown;
+  differs = s.differs || (not (x.scale == z.scale) || not (y.scale == z.scale));
+}
+
 -- the next token, if it is a name
 abbrev pub name_token : List Lexeme → Read Lexeme
 name_token ts = one_token is_name (λ t. t) ts
@@ -70,13 +98,6 @@ comparing_at ts = do
   by ← found_or_stuck (comparing_from (first_of ts)) ts
   t ← any_token by.1
   Ok (by.0, t.1)
-
--- the sign and the literal behind a reference
-unfoldable pub comparison_at : Option FoundQuantity → Laid → List Lexeme → Read Laid
-comparison_at found s ts = do
-  by ← comparing_at ts
-  z ← literal_at by.1
-  Ok (compared found by.0 z.0 s, z.1)
 
 -- a whole number of ticks
 abbrev pub ticks_of : Lit → ℕ
@@ -150,9 +171,6 @@ mode_at p ts = do
   end ← expect (is_sign (codes ")")) n.1
   Ok (module_named p n.0.text, end.1)
 
-unfoldable pub mode_compared_at : Tables → Reader
-mode_compared_at p s ts = mode_at p ts >>= λ r. comparison_at r.0 s r.1
-
 -- a point and a name behind a name
 unfoldable pub part_at : Tables → Lexeme → List Lexeme → Read (Option FoundQuantity)
 part_at p n ts = do
@@ -160,11 +178,52 @@ part_at p n ts = do
   f ← name_token dot.1
   Ok (part_named p n.text f.0.text, f.1)
 
+-- what stands behind the first name of a reference
+unfoldable pub behind_reference_at : Tables → Lexeme → List Lexeme → Read (Option FoundQuantity)
+behind_reference_at p n ts =
+    if begins (is_sign (codes "(")) ts
+    then (if is_mode n.text then mode_at p ts else Err (stuck, ts))
+    else if begins (is_sign (codes ".")) ts then part_at p n ts
+    else Ok (plain_named p n.text, ts)
+
+unfoldable pub reference_at : Tables → List Lexeme → Read (Option FoundQuantity)
+reference_at p ts = name_token ts >>= λ n. behind_reference_at p n.0 n.1
+
+-- a reference or a literal behind the sign of a comparison
+unfoldable pub other_at : Tables → Option FoundQuantity → Comparison → Reader
+other_at p found by s ts =
+    if begins is_name ts then (reference_at p ts >>= λ r. Ok (against found by r.0 s, r.1))
+    else (literal_at ts >>= λ z. Ok (compared found by z.0 s, z.1))
+
+-- the sign behind a reference that stands alone, and what it is compared with
+unfoldable pub alone_at : Tables → Option FoundQuantity → Reader
+alone_at p found s ts = comparing_at ts >>= λ by. other_at p found by.0 s by.1
+
+-- the sign of a sum or difference behind a reference, another one, and a literal
+unfoldable pub paired_at : Tables → Option FoundQuantity → Pairing → Reader
+paired_at p found j s ts = do
+  t ← any_token ts
+  r ← reference_at p t.1
+  by ← comparing_at r.1
+  z ← literal_at by.1
+  Ok (paired found j r.0 by.0 z.0 s, z.1)
+
+unfoldable pub tail_at : Tables → Option FoundQuantity → Option Pairing → Reader
+tail_at p found None s ts = alone_at p found s ts
+tail_at p found (Some j) s ts = paired_at p found j s ts
+
+-- what stands behind a reference
+unfoldable pub comparison_at : Tables → Option FoundQuantity → Reader
+comparison_at p found s ts = tail_at p found (pairing_from (first_of ts)) s ts
+
+unfoldable pub mode_compared_at : Tables → Reader
+mode_compared_at p s ts = mode_at p ts >>= λ r. comparison_at p r.0 s r.1
+
 -- a reference that begins with this name, and what it is compared with
 unfoldable pub named_at : Tables → Lexeme → Reader
 named_at p n s ts =
-    if begins (is_sign (codes ".")) ts then (part_at p n ts >>= λ r. comparison_at r.0 s r.1)
-    else comparison_at (plain_named p n.text) s ts
+    if begins (is_sign (codes ".")) ts then (part_at p n ts >>= λ r. comparison_at p r.0 s r.1)
+    else comparison_at p (plain_named p n.text) s ts
 
 -- what stands in parentheses behind a name
 unfoldable pub called_at : Tables → Reader → Word → Reader

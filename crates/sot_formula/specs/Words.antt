@@ -1,11 +1,13 @@
 -- What the words of formulas are read as.
-use Rattle.std.specs.Prelude.{ℕ, List, ◌∷◌, [], true, false, Option, Some, None, codes}
+use Rattle.std.specs.Prelude.{ℕ, List, ◌∷◌, [], Bool, true, false, Option, Some, None, codes}
 use Rattle.std.specs.Str.{bytes_eq}
 use Rattle.sot_text.specs.Reading.{Lexeme}
 use Rattle.sot_expression.specs.Lexemes.{is_sign, is_keyword, is_name}
 use Rattle.sot_expression.specs.Operators.{first_case}
 use Rattle.sot_formula.specs.declared.quantity.Comparison.{Comparison}
 use Rattle.sot_formula.specs.declared.quantity.Comparison.TheVariants as comparisons
+use Rattle.sot_formula.specs.declared.quantity.Pairing.{Pairing}
+use Rattle.sot_formula.specs.declared.quantity.Pairing.TheVariants as pairings
 use Rattle.sot_formula.specs.declared.what.What.{What}
 use Rattle.sot_formula.specs.declared.what.What.TheVariants as whats
 use Rattle.sot_formula.specs.declared.words.Single.{Single}
@@ -31,6 +33,16 @@ abbrev pub comparing_from : Option Lexeme → Option Comparison
 comparing_from None = None
 comparing_from (Some t) = comparing_of t
 
+abbrev pub pairing_of : Lexeme → Option Pairing
+pairing_of t = first_case None (
+    (is_sign (codes "+") t, Some pairings.Sum)
+    ∷ (is_sign (codes "-") t, Some pairings.Difference)
+    ∷ [])
+
+abbrev pub pairing_from : Option Lexeme → Option Pairing
+pairing_from None = None
+pairing_from (Some t) = pairing_of t
+
 abbrev pub opening_of : Lexeme → FormulaOpening
 opening_of t = first_case openings.Other (
     (is_name t, openings.Name)
@@ -54,6 +66,9 @@ word_of name = first_case words.Other (
     ∷ (bytes_eq name (codes "within"), words.Within)
     ∷ (bytes_eq name (codes "mode"), words.Mode)
     ∷ [])
+
+abbrev pub is_mode : List ℕ → Bool
+is_mode name = bytes_eq name (codes "mode")
 
 -- what has the parts at these places
 abbrev pub single_what : Single → ℕ → What

@@ -7,7 +7,7 @@ pub enum MonitorFail {
     Form,
     /// A reference names no scalar, state or module.
     Unknown,
-    /// A literal has another scale than what is compared with it.
+    /// A comparison has two scales.
     ScaleDiffers,
     Memory,
 }

@@ -16,6 +16,6 @@ mod words;
 
 pub use fail::MonitorFail;
 pub use laws::causes_exclude_each_other;
-pub use quantity::{Comparison, Quantity};
+pub use quantity::{Comparison, Pairing, Quantity};
 pub use what::What;
 pub use whole::read;

@@ -1,4 +1,4 @@
-//! What a formula compares with a number.
+//! What a formula compares.
 
 /// A scalar of a topic, a state variable of a plant, or the mode of a module, by their places.
 #[derive(Clone, Copy)]
@@ -17,4 +17,11 @@ pub enum Comparison {
     GreaterEqual,
     Equal,
     NotEqual,
+}
+
+/// How two quantities are taken together.
+#[derive(Clone, Copy)]
+pub enum Pairing {
+    Sum,
+    Difference,
 }

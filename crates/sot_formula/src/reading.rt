@@ -4,6 +4,8 @@ ghost use Rattle.std.specs.Prelude.{◌≡◌, ◌-◌, ◌≤◌, suc};
 ghost use Rattle.sot_text.specs.Reading.{lexeme};
 ghost use Rattle.sot_expression.specs.Returned.{Gives};
 ghost use Rattle.sot_formula.specs.Reading.{name_token, any_token, comparing_at, comparison_at};
+ghost use Rattle.sot_formula.specs.Reading.{reference_at, behind_reference_at, other_at, alone_at};
+ghost use Rattle.sot_formula.specs.Reading.{paired_at, tail_at};
 ghost use Rattle.sot_formula.specs.Reading.{are_ticks, ticks_of, ticks_at, single_at, double_at};
 ghost use Rattle.sot_formula.specs.Reading.{joined_at, more_at, row_at};
 ghost use Rattle.sot_formula.specs.Reading.{within_at, mode_at, mode_compared_at, part_at};
@@ -11,12 +13,12 @@ ghost use Rattle.sot_formula.specs.Reading.{named_at, called_at, behind_name_at,
 ghost use Rattle.sot_formula.specs.Reading.{formula_at};
 
 use crate::finding::{FoundQuantity, module_named, part_named, plain_named};
-use crate::laid::{Laid, compared, put};
-use crate::quantity::Comparison;
+use crate::laid::{Laid, against, compared, paired, put};
+use crate::quantity::{Comparison, Pairing};
 use crate::what::What;
 use crate::words::{
-    Double, FormulaOpening, Single, Word, comparing, double_what, further_parts, next_opening,
-    single_what, word_of,
+    Double, FormulaOpening, Single, Word, comparing, double_what, further_parts, is_mode,
+    name_comes, next_opening, pairing, single_what, word_of,
 };
 use sot_expression::{Fail, Tokens, expect_sign, is_sign, literal, number};
 use sot_lang::Typed;
@@ -61,22 +63,6 @@ fn comparing_sign(tokens: &mut Tokens<'_>) -> Result<Comparison, Fail>
     Ok(by)
 }
 
-// The sign and the literal behind a reference.
-#[tactic(auto, unfolding(crate::specs::Reading::comparison_at))]
-fn comparison(
-    tokens: &mut Tokens<'_>,
-    laid: Laid,
-    found: Option<FoundQuantity>,
-) -> Result<Laid, Fail>
-    ensures { Gives (λ s. s) result tokens.old tokens.new
-        (comparison_at found laid tokens.old.tokens) }
-{
-    let by = comparing_sign(tokens)?;
-    let literal = literal(tokens)?;
-    let more = compared(laid, found, by, literal)?;
-    Ok(more)
-}
-
 fn are_ticks(number: Lit) -> bool
     ensures { result ≡ are_ticks number }
 {
@@ -108,15 +94,6 @@ fn mode(p: &Typed, tokens: &mut Tokens<'_>) -> Result<Option<FoundQuantity>, Fai
     Ok(module_named(p, name.text))
 }
 
-#[tactic(auto, unfolding(crate::specs::Reading::mode_compared_at))]
-fn mode_compared(p: &Typed, tokens: &mut Tokens<'_>, laid: Laid) -> Result<Laid, Fail>
-    ensures { Gives (λ s. s) result tokens.old tokens.new
-        (mode_compared_at p.now laid tokens.old.tokens) }
-{
-    let found = mode(p, tokens)?;
-    comparison(tokens, laid, found)
-}
-
 // A point and a name behind a name.
 #[tactic(auto, unfolding(crate::specs::Reading::part_at))]
 fn part(p: &Typed, tokens: &mut Tokens<'_>, name: Token<'_>) -> Result<Option<FoundQuantity>, Fail>
@@ -128,6 +105,138 @@ fn part(p: &Typed, tokens: &mut Tokens<'_>, name: Token<'_>) -> Result<Option<Fo
     Ok(part_named(p, name.text, part.text))
 }
 
+// What stands behind the first name of a reference.
+#[tactic(auto, unfolding(crate::specs::Reading::behind_reference_at))]
+fn behind_reference(
+    p: &Typed,
+    tokens: &mut Tokens<'_>,
+    name: Token<'_>,
+) -> Result<Option<FoundQuantity>, Fail>
+    ensures { Gives (λ found. found) result tokens.old tokens.new
+        (behind_reference_at p.now (lexeme name.entry) tokens.old.tokens) }
+{
+    if is_sign(tokens, b"(") {
+        if is_mode(name.text) {
+            mode(p, tokens)
+        } else {
+            Err(Fail::Token)
+        }
+    } else if is_sign(tokens, b".") {
+        part(p, tokens, name)
+    } else {
+        Ok(plain_named(p, name.text))
+    }
+}
+
+#[tactic(auto, unfolding(crate::specs::Reading::reference_at))]
+fn reference(p: &Typed, tokens: &mut Tokens<'_>) -> Result<Option<FoundQuantity>, Fail>
+    ensures { Gives (λ found. found) result tokens.old tokens.new
+        (reference_at p.now tokens.old.tokens) }
+{
+    let name = name_token(tokens)?;
+    behind_reference(p, tokens, name)
+}
+
+// A reference or a literal behind the sign of a comparison.
+#[tactic(auto, unfolding(crate::specs::Reading::other_at))]
+fn other(
+    p: &Typed,
+    tokens: &mut Tokens<'_>,
+    laid: Laid,
+    found: Option<FoundQuantity>,
+    by: Comparison,
+) -> Result<Laid, Fail>
+    ensures { Gives (λ s. s) result tokens.old tokens.new
+        (other_at p.now found by laid tokens.old.tokens) }
+{
+    if name_comes(tokens) {
+        let other = reference(p, tokens)?;
+        let more = against(laid, found, by, other)?;
+        Ok(more)
+    } else {
+        let literal = literal(tokens)?;
+        let more = compared(laid, found, by, literal)?;
+        Ok(more)
+    }
+}
+
+// The sign behind a reference that stands alone, and what it is compared with.
+#[tactic(auto, unfolding(crate::specs::Reading::alone_at))]
+fn alone(
+    p: &Typed,
+    tokens: &mut Tokens<'_>,
+    laid: Laid,
+    found: Option<FoundQuantity>,
+) -> Result<Laid, Fail>
+    ensures { Gives (λ s. s) result tokens.old tokens.new
+        (alone_at p.now found laid tokens.old.tokens) }
+{
+    let by = comparing_sign(tokens)?;
+    other(p, tokens, laid, found, by)
+}
+
+// The sign of a sum or difference behind a reference, another one, and a literal.
+#[tactic(auto, unfolding(crate::specs::Reading::paired_at))]
+fn pair(
+    p: &Typed,
+    tokens: &mut Tokens<'_>,
+    laid: Laid,
+    found: Option<FoundQuantity>,
+    pairing: Pairing,
+) -> Result<Laid, Fail>
+    ensures { Gives (λ s. s) result tokens.old tokens.new
+        (paired_at p.now found pairing laid tokens.old.tokens) }
+{
+    any_token(tokens)?;
+    let other = reference(p, tokens)?;
+    let by = comparing_sign(tokens)?;
+    let literal = literal(tokens)?;
+    let more = paired(laid, found, pairing, other, by, literal)?;
+    Ok(more)
+}
+
+// What stands behind a reference, where this sign of a sum or difference comes, or none.
+#[tactic(auto, unfolding(crate::specs::Reading::tail_at))]
+fn tail(
+    p: &Typed,
+    tokens: &mut Tokens<'_>,
+    laid: Laid,
+    found: Option<FoundQuantity>,
+    next: Option<Pairing>,
+) -> Result<Laid, Fail>
+    ensures { Gives (λ s. s) result tokens.old tokens.new
+        (tail_at p.now found next laid tokens.old.tokens) }
+{
+    match next {
+        Some(pairing) => pair(p, tokens, laid, found, pairing),
+        None => alone(p, tokens, laid, found),
+    }
+}
+
+// What a reference is compared with, or taken together with and then compared.
+#[tactic(auto, unfolding(crate::specs::Reading::comparison_at))]
+fn comparison(
+    p: &Typed,
+    tokens: &mut Tokens<'_>,
+    laid: Laid,
+    found: Option<FoundQuantity>,
+) -> Result<Laid, Fail>
+    ensures { Gives (λ s. s) result tokens.old tokens.new
+        (comparison_at p.now found laid tokens.old.tokens) }
+{
+    let next = pairing(tokens);
+    tail(p, tokens, laid, found, next)
+}
+
+#[tactic(auto, unfolding(crate::specs::Reading::mode_compared_at))]
+fn mode_compared(p: &Typed, tokens: &mut Tokens<'_>, laid: Laid) -> Result<Laid, Fail>
+    ensures { Gives (λ s. s) result tokens.old tokens.new
+        (mode_compared_at p.now laid tokens.old.tokens) }
+{
+    let found = mode(p, tokens)?;
+    comparison(p, tokens, laid, found)
+}
+
 // A comparison whose reference begins with this name.
 #[tactic(auto, unfolding(crate::specs::Reading::named_at))]
 fn named(p: &Typed, tokens: &mut Tokens<'_>, laid: Laid, name: Token<'_>) -> Result<Laid, Fail>
@@ -136,9 +245,9 @@ fn named(p: &Typed, tokens: &mut Tokens<'_>, laid: Laid, name: Token<'_>) -> Res
 {
     if is_sign(tokens, b".") {
         let found = part(p, tokens, name)?;
-        comparison(tokens, laid, found)
+        comparison(p, tokens, laid, found)
     } else {
-        comparison(tokens, laid, plain_named(p, name.text))
+        comparison(p, tokens, laid, plain_named(p, name.text))
     }
 }
 

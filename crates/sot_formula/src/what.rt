@@ -1,6 +1,6 @@
 //! Parts of formulas.
 
-use crate::quantity::{Comparison, Quantity};
+use crate::quantity::{Comparison, Pairing, Quantity};
 
 /// What a part of a formula is, by the places of its own parts, which stand before it.
 #[derive(Clone, Copy)]
@@ -9,6 +9,20 @@ pub enum What {
     /// A quantity is compared with a mantissa at its scale.
     Compared {
         of: Quantity,
+        by: Comparison,
+        number: i64,
+    },
+    /// Two quantities of one scale are compared.
+    Against {
+        of: Quantity,
+        by: Comparison,
+        other: Quantity,
+    },
+    /// Two quantities of one scale are taken together, and compared with a mantissa at it.
+    Paired {
+        first: Quantity,
+        pairing: Pairing,
+        second: Quantity,
         by: Comparison,
         number: i64,
     },

@@ -49,7 +49,7 @@ fn all(alloc: Global, p: &Typed, bytes: &[u8]) -> Result<Laid, MonitorFail>
     }
 }
 
-// The parts, if each reference names something and each literal has its scale.
+// The parts, if each reference names something and no comparison has two scales.
 fn judged(laid: Laid) -> Result<Vec<What>, MonitorFail>
     ensures ok { IfOk result (λ v. (laid.unknown ≡ false) × (laid.differs ≡ false)
         × (v.items ≡ laid.whats)) }
@@ -70,8 +70,7 @@ fn judged(laid: Laid) -> Result<Vec<What>, MonitorFail>
 /// # Errors
 ///
 /// `Form` where the bytes are the text of no formula, else `Unknown` where some reference names
-/// nothing, else `ScaleDiffers` where some literal has another scale than what is named; `Memory`
-/// where there is none.
+/// nothing, else `ScaleDiffers` where some comparison has two scales; `Memory` where there is none.
 pub fn read(alloc: Global, p: &Typed, bytes: &[u8]) -> Result<Vec<What>, MonitorFail>
     ensures ok { IfOk result (λ v. IsRead p.now bytes.now v.items) }
     ensures err { IfErr result (λ fail. Refuses p.now bytes.now fail) }

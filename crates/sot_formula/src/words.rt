@@ -5,10 +5,12 @@ ghost use Rattle.std.specs.Str.{bytes_eq};
 ghost use Rattle.sot_text.specs.Reading.{lexeme};
 ghost use Rattle.sot_formula.specs.Phrases.{most_parts};
 ghost use Rattle.sot_formula.specs.Words.{comparing_of, comparing_from, opening_of, opening_from};
-ghost use Rattle.sot_formula.specs.Words.{word_of, single_what, double_what};
+ghost use Rattle.sot_formula.specs.Words.{word_of, is_mode, single_what, double_what};
+ghost use Rattle.sot_formula.specs.Words.{pairing_of, pairing_from};
+ghost use Rattle.sot_expression.specs.Lexemes.{begins, is_name};
 ghost use Rattle.sot_expression.specs.Stream.{first_of};
 
-use crate::quantity::Comparison;
+use crate::quantity::{Comparison, Pairing};
 use crate::what::What;
 use sot_expression::{Tokens, token_is_keyword, token_is_sign};
 use sot_text::{Kind, Token};
@@ -77,6 +79,35 @@ pub fn comparing(tokens: &Tokens<'_>) -> Option<Comparison>
     comparing_of(&tokens.peek()?)
 }
 
+fn pairing_of(token: &Token<'_>) -> Option<Pairing>
+    ensures { result ≡ pairing_of (lexeme token.now) }
+{
+    if token_is_sign(token, b"+") {
+        Some(Pairing::Sum)
+    } else if token_is_sign(token, b"-") {
+        Some(Pairing::Difference)
+    } else {
+        None
+    }
+}
+
+/// The sum or difference whose sign comes next.
+pub fn pairing(tokens: &Tokens<'_>) -> Option<Pairing>
+    ensures { result ≡ pairing_from (first_of tokens.now.tokens) }
+{
+    pairing_of(&tokens.peek()?)
+}
+
+/// A name comes next.
+pub fn name_comes(tokens: &Tokens<'_>) -> bool
+    ensures { result ≡ begins is_name tokens.now.tokens }
+{
+    match tokens.peek() {
+        Some(token) => matches!(token.kind, Kind::Name),
+        None => false,
+    }
+}
+
 fn opening_of(token: &Token<'_>) -> FormulaOpening
     ensures { result ≡ opening_of (lexeme token.now) }
 {
@@ -111,6 +142,13 @@ fn is_same(name: &[u8], word: &[u8]) -> bool
     ensures { result ≡ bytes_eq name.now word.now }
 {
     name == word
+}
+
+/// A name of these bytes in front of a parenthesis asks for a module.
+pub fn is_mode(name: &[u8]) -> bool
+    ensures { result ≡ is_mode name.now }
+{
+    is_same(name, b"mode")
 }
 
 /// What a name of these bytes is in front of a parenthesis.

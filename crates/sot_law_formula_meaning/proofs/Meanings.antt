@@ -10,15 +10,16 @@ use Rattle.sot_expression.specs.Lexemes.{IsSign}
 use Rattle.sot_expression.proofs.ReadSteps.{ok_is}
 use Rattle.sot_formula.specs.declared.quantity.Quantity.{Quantity}
 use Rattle.sot_formula.specs.declared.quantity.Comparison.{Comparison}
+use Rattle.sot_formula.specs.declared.quantity.Pairing.{Pairing}
 use Rattle.sot_formula.specs.declared.words.Single.TheVariants as singles
 use Rattle.sot_formula.specs.declared.words.Double.TheVariants as doubles
 use Rattle.sot_formula.specs.declared.finding.FoundQuantity.{FoundQuantity}
-use Rattle.sot_formula.specs.Formulas.{Formula, Compared, Not, And, Or, Implies, Once, Always, Since, Within}
-use Rattle.sot_formula.specs.Phrases.{Reference, Phrase, a_truth, a_single, a_double, a_row, a_within, a_comparison, IsFormulaText}
-use Rattle.sot_formula.specs.Meanings.{Names, sign_text, mantissa, Means}
+use Rattle.sot_formula.specs.Formulas.{Formula, Compared, Against, Paired, Not, And, Or, Implies, Once, Always, Since, Within}
+use Rattle.sot_formula.specs.Phrases.{Relation, to_number, to_another, of_two, Reference, Phrase, a_truth, a_single, a_double, a_row, a_within, a_comparison, IsFormulaText}
+use Rattle.sot_formula.specs.Meanings.{Names, sign_text, pair_text, mantissa, decimals, IsCompared, Means}
 use Rattle.sot_formula.specs.Parts.{IsPart}
 use Rattle.sot_formula.specs.Reading.{Laid, none_laid, place}
-use Rattle.sot_formula.proofs.Laying.{laid, signs}
+use Rattle.sot_formula.proofs.Laying.{laid, signs, pair_signs}
 use Rattle.sot_formula.proofs.Meant.{names_found, meant}
 use Rattle.sot_formula.proofs.Causes.{unknown_set, differs_set, means_known, means_same}
 use Rattle.sot_formula.proofs.Texts.{read_text}
@@ -29,14 +30,34 @@ module _ (p : Tables) (rules : MeetsTableRules p) where
   abbrev found_as : Quantity → ℕ → FoundQuantity
   found_as q scale = record { of = q; scale = scale }
 
-  -- a reference names one quantity
-  named_once : (r : Reference) (q k : Quantity) (scale : ℕ) → Names p r q scale → Names p r k scale → q ≡ k
-  named_once r q k scale a b =
-      let e : Some (found_as q scale) ≡ Some (found_as k scale) = sym (names_found p rules r q scale a) ∙ names_found p rules r k scale b in
-      ap (λ (x : FoundQuantity). x.of) (same_Some (found_as q scale) (found_as k scale) e)
-
   sign_once : (c d : Comparison) (by : Lexeme) → IsSign (sign_text c) by → IsSign (sign_text d) by → c ≡ d
   sign_once c d by a b = same_Some c d (sym (signs c by a) ∙ signs d by b)
+
+  pair_once : (c d : Pairing) (t : Lexeme) → IsSign (pair_text c) t → IsSign (pair_text d) t → c ≡ d
+  pair_once c d t a b = same_Some c d (sym (pair_signs c t a) ∙ pair_signs d t b)
+
+  -- a reference names one quantity
+  named_once : (r : Reference) (q k : Quantity) (m n : ℕ) → Names p r q m → Names p r k n → q ≡ k
+  named_once r q k m n a b =
+      let e : Some (found_as q m) ≡ Some (found_as k n) = sym (names_found p rules r q m a) ∙ names_found p rules r k n b in
+      ap (λ (x : FoundQuantity). x.of) (same_Some (found_as q m) (found_as k n) e)
+
+  compared_once : (c : Relation) (x y : Formula) → IsCompared p c x → IsCompared p c y → x ≡ y
+  compared_once (to_number r by z) x y (q, c, names, sign, is) (k, d, names', sign', is') =
+      is ∙ ap₂ (λ (a : Quantity) (b : Comparison). Compared a b (mantissa z)) (named_once r q k _ _ names names') (sign_once c d by sign sign') ∙ sym is'
+  compared_once (to_another r by q) x y (a, b, c, m, names, named, sign, is) (a', b', d, n, names', named', sign', is') =
+      is
+      ∙ ap (λ (k : Quantity). Against k c b) (named_once r a a' m n names names')
+      ∙ ap (λ (k : Quantity). Against a' c k) (named_once q b b' m n named named')
+      ∙ ap (λ (k : Comparison). Against a' k b') (sign_once c d by sign sign')
+      ∙ sym is'
+  compared_once (of_two r pair q by z) x y (a, b, j, c, names, named, paired, sign, is) (a', b', i, d, names', named', paired', sign', is') =
+      is
+      ∙ ap (λ (k : Quantity). Paired k j b c (mantissa z)) (named_once r a a' _ _ names names')
+      ∙ ap (λ (k : Pairing). Paired a' k b c (mantissa z)) (pair_once j i pair paired paired')
+      ∙ ap (λ (k : Quantity). Paired a' i k c (mantissa z)) (named_once q b b' _ _ named named')
+      ∙ ap (λ (k : Comparison). Paired a' i b' k (mantissa z)) (sign_once c d by sign sign')
+      ∙ sym is'
 
   -- a phrase has one meaning
   phrase_once : (f : Phrase) (x y : Formula) → Means p f x → Means p f y → x ≡ y
@@ -54,8 +75,7 @@ module _ (p : Tables) (rules : MeetsTableRules p) where
   phrase_once (a_row doubles.Implies f comma g) x y (u, u', m, m', is) (v, v', n, n', is') =
       is ∙ ap₂ Implies (phrase_once f u v m n) (phrase_once g u' v' m' n') ∙ sym is'
   phrase_once (a_within w begin n comma f end) x y (u, m, is) (v, k, is') = is ∙ ap (Within (mantissa_of n.text)) (phrase_once f u v m k) ∙ sym is'
-  phrase_once (a_comparison r by z) x y (q, c, names, sign, is) (k, d, names', sign', is') =
-      is ∙ ap₂ (λ (a : Quantity) (b : Comparison). Compared a b (mantissa z)) (named_once r q k _ names names') (sign_once c d by sign sign') ∙ sym is'
+  phrase_once (a_comparison c) x y a b = compared_once c x y a b
 
   -- where a phrase has a meaning, its parts are that of it
   means_part : (bytes : List ℕ) (f : Phrase) (x : Formula) → IsFormulaText bytes f → Means p f x

@@ -4,13 +4,15 @@ use Rattle.sot_lists.specs.Places.{At}
 use Rattle.sot_lists.proofs.Places.{at_same}
 use Rattle.sot_formula.specs.declared.what.What.{What}
 use Rattle.sot_formula.specs.declared.what.What.TheVariants as whats
-use Rattle.sot_formula.specs.Formulas.{Formula, Truth, Compared, Not, And, Or, Implies, Once, Always, Since, Within}
+use Rattle.sot_formula.specs.Formulas.{Formula, Truth, Compared, Against, Paired, Not, And, Or, Implies, Once, Always, Since, Within}
 use Rattle.sot_formula.specs.Parts.{IsPart}
 
 -- which formula it is, by what stands there
 abbrev Shape : List What → What → Formula → Type 0
 Shape ws (whats.Truth value) g = g ≡ Truth value
 Shape ws (whats.Compared of by number) g = g ≡ Compared of by number
+Shape ws (whats.Against of by other) g = g ≡ Against of by other
+Shape ws (whats.Paired first pairing second by number) g = g ≡ Paired first pairing second by number
 Shape ws (whats.Not k) g = (a : Formula) × IsPart ws k a × (g ≡ Not a)
 Shape ws (whats.And k n) g = (a b : Formula) × IsPart ws k a × IsPart ws n b × (g ≡ And a b)
 Shape ws (whats.Or k n) g = (a b : Formula) × IsPart ws k a × IsPart ws n b × (g ≡ Or a b)
@@ -23,6 +25,8 @@ Shape ws (whats.Within ticks k) g = (a : Formula) × IsPart ws k a × (g ≡ Wit
 shaped : (ws : List What) (i : ℕ) (g : Formula) → IsPart ws i g → (w : What) × At ws i w × Shape ws w g
 shaped ws i (Truth value) at = (whats.Truth value, at, refl)
 shaped ws i (Compared of by number) at = (whats.Compared of by number, at, refl)
+shaped ws i (Against of by other) at = (whats.Against of by other, at, refl)
+shaped ws i (Paired first pairing second by number) at = (whats.Paired first pairing second by number, at, refl)
 shaped ws i (Not a) (k, at, lt, part) = (whats.Not k, at, (a, part, refl))
 shaped ws i (And a b) (k, n, at, lt, lt', part, part') = (whats.And k n, at, (a, b, part, part', refl))
 shaped ws i (Or a b) (k, n, at, lt, lt', part, part') = (whats.Or k n, at, (a, b, part, part', refl))
@@ -38,6 +42,9 @@ shape_at ws i w g at part = (let s = shaped ws i g part in subst (λ (v : What).
 pub part_once : (ws : List What) (i : ℕ) (f g : Formula) → IsPart ws i f → IsPart ws i g → f ≡ g
 part_once ws i (Truth value) g at part = sym (shape_at ws i (whats.Truth value) g at part)
 part_once ws i (Compared of by number) g at part = sym (shape_at ws i (whats.Compared of by number) g at part)
+part_once ws i (Against of by other) g at part = sym (shape_at ws i (whats.Against of by other) g at part)
+part_once ws i (Paired first pairing second by number) g at part =
+    sym (shape_at ws i (whats.Paired first pairing second by number) g at part)
 part_once ws i (Not f) g (k, at, lt, part) other =
     let s = shape_at ws i (whats.Not k) g at other in
     ap Not (part_once ws k f s.0 part s.1) ∙ sym s.2

@@ -2,7 +2,7 @@
 use Rattle.std.proofs.Common.{◌≡◌, ℕ, zero, suc, ◌<◌, ◌↔◌, inl, inr, ⊎_elim, List, [], ◌∷◌, ◌++◌, length, refl, arith}
 use Rattle.sot_lists.specs.Places.{At}
 use Rattle.sot_lists.proofs.Places.{at_front, at_in_front}
-use Rattle.sot_formula.specs.Formulas.{Formula, Truth, Compared, Not, And, Or, Implies, Once, Always, Since, Within}
+use Rattle.sot_formula.specs.Formulas.{Formula, Truth, Compared, Against, Paired, Not, And, Or, Implies, Once, Always, Since, Within}
 use Rattle.sot_monitor.specs.Holding.{Moment, Holds}
 
 pub at_end : {A : Type 0} (xs : List A) (x : A) → At (xs ++ x ∷ []) (length xs) x
@@ -17,6 +17,9 @@ module _ (Ms more : List Moment) where
   pub before : (f : Formula) (i : ℕ) → i < length Ms → Holds (Ms ++ more) f i ↔ Holds Ms f i
   before (Truth value) i lt = (λ h. h, λ h. h)
   before (Compared of by number) i lt = (λ h. (h.0, at_in_front Ms more i h.0 lt h.1, h.2), λ h. (h.0, at_front Ms more i h.0 h.1, h.2))
+  before (Against of by other) i lt = (λ h. (h.0, at_in_front Ms more i h.0 lt h.1, h.2), λ h. (h.0, at_front Ms more i h.0 h.1, h.2))
+  before (Paired first pairing second by number) i lt =
+      (λ h. (h.0, at_in_front Ms more i h.0 lt h.1, h.2), λ h. (h.0, at_front Ms more i h.0 h.1, h.2))
   before (Not f) i lt = (λ h x. h ((before f i lt).1 x), λ h x. h ((before f i lt).0 x))
   before (And f g) i lt = (λ h. ((before f i lt).0 h.0, (before g i lt).0 h.1), λ h. ((before f i lt).1 h.0, (before g i lt).1 h.1))
   before (Or f g) i lt = (

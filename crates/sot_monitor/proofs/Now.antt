@@ -9,9 +9,9 @@ use Rattle.sot_lists.specs.Places.{At}
 use Rattle.sot_lists.proofs.Places.{at_same}
 use Rattle.sot_formula.specs.declared.what.What.{What}
 use Rattle.sot_formula.specs.declared.what.What.TheVariants as whats
-use Rattle.sot_formula.specs.Formulas.{Formula, Truth, Compared, Not, And, Or, Implies, Once, Always, Since, Within}
+use Rattle.sot_formula.specs.Formulas.{Formula, Truth, Compared, Against, Paired, Not, And, Or, Implies, Once, Always, Since, Within}
 use Rattle.sot_formula.specs.Parts.{IsPart}
-use Rattle.sot_monitor.specs.Holding.{Moment, Compares, Holds}
+use Rattle.sot_monitor.specs.Holding.{Moment, Compares, together, Holds}
 use Rattle.sot_monitor.specs.Standing.{IsLast, NowBy, last_of}
 use Rattle.sot_monitor.proofs.Before.{before, at_end, length_end}
 
@@ -163,6 +163,20 @@ module _ (Ms : List Moment) (s : Moment) where
           λ h. (let same : h.0 ≡ s = at_same more n h.0 s h.1 (at_end Ms s)
               in subst (λ (x : Moment). Compares by (x of) number) same h.2),
         ))
+    now_by w (Against of by other) at part last =
+        (let e : w ≡ whats.Against of by other = at_same ws i w (whats.Against of by other) at part in
+        rw e (
+          λ h. (s, at_end Ms s, h),
+          λ h. (let same : h.0 ≡ s = at_same more n h.0 s h.1 (at_end Ms s)
+              in subst (λ (x : Moment). Compares by (x of) (x other)) same h.2),
+        ))
+    now_by w (Paired first pairing second by number) at part last =
+        (let e : w ≡ whats.Paired first pairing second by number = at_same ws i w (whats.Paired first pairing second by number) at part in
+        rw e (
+          λ h. (s, at_end Ms s, h),
+          λ h. (let same : h.0 ≡ s = at_same more n h.0 s h.1 (at_end Ms s)
+              in subst (λ (x : Moment). Compares by (together pairing (x first) (x second)) number) same h.2),
+        ))
     now_by w (Not f) at part last =
         (let e : w ≡ whats.Not part.0 = at_same ws i w (whats.Not part.0) at part.1 in
         let is = now_is f (last_of lasts part.0) (parts part.0 f part.2 part.3) in
@@ -241,6 +255,8 @@ module _ (Ms : List Moment) (s : Moment) where
 pub part_inside : (ws : List What) (i : ℕ) (f : Formula) → IsPart ws i f → i < length ws
 part_inside ws i (Truth value) part = slice_get_within ws i (whats.Truth value) part
 part_inside ws i (Compared of by number) part = slice_get_within ws i (whats.Compared of by number) part
+part_inside ws i (Against of by other) part = slice_get_within ws i (whats.Against of by other) part
+part_inside ws i (Paired first pairing second by number) part = slice_get_within ws i (whats.Paired first pairing second by number) part
 part_inside ws i (Not f) part = slice_get_within ws i (whats.Not part.0) part.1
 part_inside ws i (And f g) part = slice_get_within ws i (whats.And part.0 part.1) part.2
 part_inside ws i (Or f g) part = slice_get_within ws i (whats.Or part.0 part.1) part.2

@@ -1,11 +1,14 @@
 -- When a formula holds.
 use Rattle.std.specs.Prelude.{ℕ, ℤ, true, List, ◌≡◌, ◌≢◌, ◌⊎◌, ◌<◌, ◌≤◌, ◌+◌, ◌<ℤ◌, ◌≤ℤ◌, length}
+use Rattle.std.specs.Prelude.{◌+ℤ◌, ◌-ℤ◌}
 use Rattle.sot_lists.specs.Places.{At}
 use Rattle.sot_formula.specs.declared.quantity.Quantity.{Quantity}
 use Rattle.sot_formula.specs.declared.quantity.Comparison.{Comparison}
 use Rattle.sot_formula.specs.declared.quantity.Comparison.TheVariants as comparisons
-use Rattle.sot_formula.specs.Formulas.{Formula, Truth, Compared, Not, And, Or, Implies, Once}
-use Rattle.sot_formula.specs.Formulas.{Always, Since, Within}
+use Rattle.sot_formula.specs.declared.quantity.Pairing.{Pairing}
+use Rattle.sot_formula.specs.declared.quantity.Pairing.TheVariants as pairings
+use Rattle.sot_formula.specs.Formulas.{Formula, Truth, Compared, Against, Paired, Not, And, Or}
+use Rattle.sot_formula.specs.Formulas.{Implies, Once, Always, Since, Within}
 
 -- a moment is the number of each quantity
 abbrev pub Moment : Type 0
@@ -19,10 +22,18 @@ Compares comparisons.GreaterEqual x z = z ≤ℤ x
 Compares comparisons.Equal x z = x ≡ z
 Compares comparisons.NotEqual x z = x ≢ z
 
+-- two numbers together
+abbrev pub together : Pairing → ℤ → ℤ → ℤ
+together pairings.Sum x y = x +ℤ y
+together pairings.Difference x y = x -ℤ y
+
 -- a formula holds at moment i of these
 abbrev pub Holds : List Moment → Formula → ℕ → Type 0
 Holds Ms (Truth value) i = value ≡ true
 Holds Ms (Compared of by number) i = (s : Moment) × At Ms i s × Compares by (s of) number
+Holds Ms (Against of by other) i = (s : Moment) × At Ms i s × Compares by (s of) (s other)
+Holds Ms (Paired first pairing second by number) i =
+    (s : Moment) × At Ms i s × Compares by (together pairing (s first) (s second)) number
 Holds Ms (Not f) i = Holds Ms f i → ⊥
 Holds Ms (And f g) i = Holds Ms f i × Holds Ms g i
 Holds Ms (Or f g) i = Holds Ms f i ⊎ Holds Ms g i

@@ -5,7 +5,7 @@ use Rattle.sot_formula.specs.declared.what.What.{What}
 use Rattle.sot_formula.specs.declared.what.What.TheVariants as whats
 use Rattle.sot_formula.specs.Formulas.{Formula}
 use Rattle.sot_formula.specs.Parts.{IsPart}
-use Rattle.sot_monitor.specs.Holding.{Moment, Compares, Holds}
+use Rattle.sot_monitor.specs.Holding.{Moment, Compares, together, Holds}
 
 -- one more than the last moment at which it held, or 0
 abbrev pub IsLast : List Moment → Formula → ℕ → Type 0
@@ -30,6 +30,9 @@ StepsOn ws old new added s =
 abbrev pub NowBy : What → ℕ → List ℕ → ℕ → Moment → Type 0
 NowBy (whats.Truth value) own lasts added s = value ≡ true
 NowBy (whats.Compared of by number) own lasts added s = Compares by (s of) number
+NowBy (whats.Against of by other) own lasts added s = Compares by (s of) (s other)
+NowBy (whats.Paired first pairing second by number) own lasts added s =
+    Compares by (together pairing (s first) (s second)) number
 NowBy (whats.Not k) own lasts added s = last_of lasts k ≢ suc added
 NowBy (whats.And k n) own lasts added s =
     (last_of lasts k ≡ suc added) × (last_of lasts n ≡ suc added)

@@ -1,11 +1,11 @@
 //! Monitors.
 
-ghost use Rattle.std.specs.Prelude.{◌≡◌, ℕ, ℤ, List, ◌++◌, ◌∷◌, [], ◌+◌, ◌≤◌, ◌<◌, length, IsTrue};
+ghost use Rattle.std.specs.Prelude.{◌≡◌, ℕ, List, ◌++◌, ◌∷◌, [], ◌+◌, ◌≤◌, ◌<◌, length, IsTrue};
 ghost use Rattle.std.specs.Prelude.{◌↔◌, IfOk, IfErr, replicate};
 ghost use Rattle.sot_lists.specs.Places.{At};
-ghost use Rattle.sot_formula.specs.declared.what.What.TheVariants.{Compared as IsCompared};
+ghost use Rattle.sot_formula.specs.declared.what.What.{What as Is};
 ghost use Rattle.sot_formula.specs.Formulas.{Formula};
-ghost use Rattle.sot_formula.specs.Parts.{ArePlaced};
+ghost use Rattle.sot_formula.specs.Parts.{ArePlaced, LooksAt};
 ghost use Rattle.sot_formula.specs.Answers.{Refuses};
 ghost use Rattle.sot_monitor.specs.Holding.{Moment, Holds};
 ghost use Rattle.sot_monitor.specs.Tracking.{StandsFor, IsNewOf, new_of};
@@ -63,8 +63,8 @@ impl Monitor {
     /// # Errors
     ///
     /// `Form` where the bytes are the text of no formula, else `Unknown` where some reference
-    /// names nothing, else `ScaleDiffers` where some literal has another scale than what is named;
-    /// `Memory` where there is none.
+    /// names nothing, else `ScaleDiffers` where some comparison has two scales; `Memory` where
+    /// there is none.
     pub fn read(alloc: Global, p: &Typed, bytes: &[u8]) -> Result<Monitor, MonitorFail>
         ensures ok { IfOk result (λ m. IsNewOf p.now bytes.now m) }
         ensures err { IfErr result (λ fail. Refuses p.now bytes.now fail) }
@@ -81,8 +81,8 @@ impl Monitor {
     /// Adds what can be looked at now as the next moment, and says whether the formula holds then.
     /// It takes no memory.
     pub fn step<L: Looks>(&mut self, now: &L) -> bool
-        requires there { (k : ℕ) (q : _) (by : _) (number : ℤ)
-            → At self.old.whats k (IsCompared q by number) → L.has now.now q }
+        requires there { (k : ℕ) (w : Is) (q : _) → At self.old.whats k w → LooksAt w q
+            → L.has now.now q }
         requires few { self.old.added ≤ 100000 }
         ensures kept { self.new.whats ≡ self.old.whats }
         ensures added { self.new.added ≡ self.old.added + 1 }

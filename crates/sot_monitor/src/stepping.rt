@@ -1,18 +1,26 @@
 //! One moment more.
 
-ghost use Rattle.std.specs.Prelude.{◌≡◌, ℕ, ℤ, ◌<◌, ◌≤◌, ◌+◌, length, IsTrue, ◌↔◌, MatchBool};
+ghost use Rattle.std.specs.Prelude.{◌≡◌, ℕ, ◌<◌, ◌≤◌, ◌+◌, length, IsTrue, ◌↔◌, MatchBool};
 ghost use Rattle.std.specs.List.{All};
 ghost use Rattle.sot_lists.specs.Places.{At};
 ghost use Rattle.sot_formula.specs.declared.what.What.{What as Is};
-ghost use Rattle.sot_formula.specs.declared.what.What.TheVariants.{Compared as IsCompared};
-ghost use Rattle.sot_formula.specs.Parts.{IsPlaced, ArePlaced};
-ghost use Rattle.sot_monitor.specs.Holding.{Compares};
+ghost use Rattle.sot_formula.specs.Parts.{IsPlaced, ArePlaced, LooksAt};
+ghost use Rattle.sot_monitor.specs.Holding.{Compares, together};
 ghost use Rattle.sot_monitor.specs.Standing.{NowBy, StepsOn};
 
 use crate::looks::Looks;
-use sot_formula::{Comparison, What};
+use sot_formula::{Comparison, Pairing, What};
 
-fn compares(by: Comparison, x: i64, z: i64) -> bool
+fn together(pairing: Pairing, x: i64, y: i64) -> i128
+    ensures { result ≡ together pairing x y }
+{
+    match pairing {
+        Pairing::Sum => x as i128 + y as i128,
+        Pairing::Difference => x as i128 - y as i128,
+    }
+}
+
+fn compares(by: Comparison, x: i128, z: i128) -> bool
     ensures { IsTrue result ↔ Compares by x z }
 {
     match by {
@@ -28,8 +36,7 @@ fn compares(by: Comparison, x: i64, z: i64) -> bool
 // Whether a part holds now.
 fn holds_now<L: Looks>(what: What, i: usize, own: u32, lasts: &[u32], added: u32, now: &L) -> bool
     requires placed { IsPlaced i what }
-    requires there { (q : _) (by : _) (number : ℤ) → what ≡ IsCompared q by number
-        → L.has now.now q }
+    requires there { (q : _) → LooksAt what q → L.has now.now q }
     requires room { i < length lasts.now }
     requires few { added ≤ 100000 }
     requires small { All (λ l. l ≤ 100001) lasts.now }
@@ -38,7 +45,20 @@ fn holds_now<L: Looks>(what: What, i: usize, own: u32, lasts: &[u32], added: u32
     let count = added + 1;
     match what {
         What::Truth(value) => value,
-        What::Compared { of, by, number } => compares(by, now.look(of), number),
+        What::Compared { of, by, number } => compares(by, now.look(of) as i128, number as i128),
+        What::Against { of, by, other } => {
+            compares(by, now.look(of) as i128, now.look(other) as i128)
+        }
+        What::Paired {
+            first,
+            pairing,
+            second,
+            by,
+            number,
+        } => {
+            let both = together(pairing, now.look(first), now.look(second));
+            compares(by, both, number as i128)
+        }
         What::Not(k) => lasts[k] != count,
         What::And { first, second } => lasts[first] == count && lasts[second] == count,
         What::Or { first, second } => lasts[first] == count || lasts[second] == count,
@@ -66,8 +86,7 @@ fn part_holds<L: Looks>(
 ) -> bool
     requires inside { i < length whats.now }
     requires placed { ArePlaced whats.now }
-    requires there { (k : ℕ) (q : _) (by : _) (number : ℤ) → At whats.now k (IsCompared q by number)
-        → L.has now.now q }
+    requires there { (k : ℕ) (w : Is) (q : _) → At whats.now k w → LooksAt w q → L.has now.now q }
     requires room { i < length lasts.now }
     requires few { added ≤ 100000 }
     requires small { All (λ l. l ≤ 100001) lasts.now }
@@ -89,8 +108,7 @@ fn noted(last: u32, holds: bool, count: u32) -> u32
 /// takes no memory, and as many steps as there are parts.
 pub fn step<L: Looks>(whats: &[What], lasts: &mut [u32], added: u32, now: &L)
     requires placed { ArePlaced whats.now }
-    requires there { (k : ℕ) (q : _) (by : _) (number : ℤ) → At whats.now k (IsCompared q by number)
-        → L.has now.now q }
+    requires there { (k : ℕ) (w : Is) (q : _) → At whats.now k w → LooksAt w q → L.has now.now q }
     requires size { length lasts.old ≡ length whats.now }
     requires few { added ≤ 100000 }
     requires small { All (λ l. l ≤ 100001) lasts.old }

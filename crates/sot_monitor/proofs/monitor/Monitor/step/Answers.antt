@@ -4,16 +4,15 @@ use Rattle.std.proofs.lemmas.List.{with_items_is}
 use Rattle.sot_lists.specs.Places.{At}
 use Rattle.sot_lists.proofs.Places.{read_or}
 use Rattle.sot_formula.specs.declared.what.What.{What}
-use Rattle.sot_formula.specs.declared.what.What.TheVariants.{Compared as IsCompared}
 use Rattle.sot_monitor.specs.Standing.{StepsOn, last_of}
 use Rattle.sot_monitor.specs.Tracked.{Tracked}
 use Rattle.sot_monitor.proofs.Stands.{stands_on, holds_on, moved_steps, eq_yes, eq_is}
 use Rattle.sot_monitor.proofs.monitor.Monitor.step.Goals as goal
 
 pub step-requires-clause-there : goal.step-requires-clause-there
-step-requires-clause-there g c = λ k q by number at.
+step-requires-clause-there g c = λ k w q at looks.
     let whats = c.deref.ensures.value ∙ ap (λ (m : Tracked). m.whats) c.self.view_is in
-    c.requires.there k q by number (subst (λ (ws : List What). At ws k (IsCompared q by number)) whats at)
+    c.requires.there k w q (subst (λ (ws : List What). At ws k w) whats at) looks
 
 pub returns-clause-stands : goal.returns-clause-stands
 returns-clause-stands g c = λ x Ms old.
