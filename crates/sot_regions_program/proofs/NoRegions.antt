@@ -164,7 +164,7 @@ closed_later t jitter later a grain less (grid, is, none) = (
 module _ (p : Program) (t : Tables) (jitter m : ℕ) (resolves : Resolves p t) (searched : IsSearched t jitter)
     (before : 0 < m → HaveRegions p t jitter m) where
   leaves_nothing : (grain : List ℤ) → IsAloneAt t m → TellsGrain t jitter m grain → LeavesNothing p t jitter m grain
-  leaves_nothing grain alone (a, at, closed, none) later less =
+  leaves_nothing grain alone (a, at, (closed, none)) later less =
       let boxes = searched_boxes t jitter searched in (
         λ x at_x.
             subst (λ (y : ModuleInfo). HasNoClosedSetAt t later y grain) (at_same t.modules m a x at at_x)
