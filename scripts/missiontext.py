@@ -74,6 +74,8 @@ class Sections:
                 self.parts.setdefault(name, text[begin:at])
                 name, begin = text[at:end].rstrip('\r')[1:], end + 1
                 self.heads.append((line, '%' + name))
+                # a talk may say at which time it begins
+                name = re.sub(r'^observed (?:0|[1-9][0-9]*)$', 'observed', name)
                 self.lines.setdefault(name, line + 1)
             at, line = end + 1, line + 1
         self.parts.setdefault(name, text[begin:])
@@ -97,8 +99,8 @@ def halves_of(text):
 
 
 def in_front(text, name):
-    """What stands before the first section line of that name."""
-    found = re.search(rf'^%{name}\r?$', text, re.M)
+    """What stands before the first section line of that name; behind `%observed` a time may stand."""
+    found = re.search(rf'^%{name}(?: [0-9]+)?\r?$', text, re.M)
     return text[:found.start()] if found else text
 
 

@@ -88,13 +88,14 @@ def is_large(numbers):
 class Guard:
     """A mission beside plants that are observed."""
 
-    def __init__(self, meaning, jitter):
-        self.meaning, self.jitter, self.kept = meaning, jitter, {}
+    def __init__(self, meaning, jitter, first=0):
+        """`first` is the time at which the talk begins."""
+        self.meaning, self.jitter, self.first, self.kept = meaning, jitter, first, {}
         self.begin()
 
     def begin(self):
         """Before the first plant was observed; what was found of points is kept."""
-        self.time, self.events, self.trusted, self.seen, self.turn, self.outside = 0, 0, True, True, 'start', None
+        self.time, self.events, self.trusted, self.seen, self.turn, self.outside = self.first, 0, True, True, 'start', None
         self.scalars = dict(self.meaning.initial)
         self.modes = {module.name: 'sc' for module in self.meaning.modules}
         self.locals = {node.name: dict(node.first) for node in self.meaning.nodes}
@@ -380,14 +381,20 @@ def is_in(region, point):
 # --- a whole talk ---------------------------------------------------------------------------------------------------
 
 def parts_of(text):
-    """The mission in front of the line `%observed`, and the robot's lines behind it, without their line ends."""
-    found = re.search(r'^%observed\r?(?:\n|\Z)', text, re.M)
+    """The mission in front of the line `%observed`, the robot's lines behind it, without their line ends, and the time at which it begins."""
+    marks = re.finditer(r'^%observed(?: (0|[1-9][0-9]*))?\r?(?:\n|\Z)', text, re.M)
+    found = next((mark for mark in marks if number_of(mark[1] or '0') <= HORIZON), None)
     if not found:
         raise missiontext.NotRead('there is no line %observed')
     lines = text[found.end():].split('\n')
     if lines[-1] == '':
         lines.pop()
-    return text[:found.start()], [line if len(line) >= TOO_LONG else line.removesuffix('\r') for line in lines]
+    return text[:found.start()], [line if len(line) >= TOO_LONG else line.removesuffix('\r') for line in lines], int(found[1] or '0')
+
+
+def mark_of(first):
+    """The line behind which a talk begins at the time `first`."""
+    return f'%observed {first}\n' if first else '%observed\n'
 
 
 def outline_of(meaning):
@@ -419,12 +426,12 @@ def guard_of(mission):
     return meaning, cert.get('jitter', 0), accepted + outline_of(meaning)
 
 
-def answers(mission, lines):
-    """The status and the lines of the whole answer."""
+def answers(mission, lines, first=0):
+    """The status and the lines of the whole answer to a talk that begins at the time `first`."""
     meaning, jitter, said = guard_of(mission)
     number = 0
     try:
-        guard = Guard(meaning, jitter)
+        guard = Guard(meaning, jitter, first)
         said += guard.begun
         for number, line in enumerate(lines, 1):
             if len(line) >= TOO_LONG:

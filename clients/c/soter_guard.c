@@ -7,6 +7,7 @@
 #include <poll.h>
 #include <signal.h>
 #include <spawn.h>
+#include <stdio.h>
 #include <stdlib.h>
 #include <string.h>
 #include <sys/socket.h>
@@ -669,6 +670,18 @@ static int hear_mission(soter_guard *guard, double end)
     return result;
 }
 
+/* Tells at which time the talk begins. */
+static int tell_mark(soter_guard *guard, double end)
+{
+    char mark[40];
+    int length;
+
+    if (guard->options.first_time == 0)
+        return tell_alone(guard, "%observed\n", strlen("%observed\n"), end);
+    length = snprintf(mark, sizeof mark, "%%observed %lld\n", (long long)guard->options.first_time);
+    return tell_alone(guard, mark, (size_t)length, end);
+}
+
 /* Tells the mission, and waits for `accepted` and all that is said of it. */
 static int open_talk(soter_guard *guard)
 {
@@ -684,7 +697,7 @@ static int open_talk(soter_guard *guard)
     if (result == SOTER_GUARD_DONE && length > 0 && text[length - 1] != '\n')
         result = tell_alone(guard, "\n", 1, end);
     if (result == SOTER_GUARD_DONE)
-        result = tell_alone(guard, "%observed\n", strlen("%observed\n"), end);
+        result = tell_mark(guard, end);
     if (result != SOTER_GUARD_DONE || (length = wait_line(guard, end)) == 0)
         return SOTER_GUARD_LOST;
     if (strcmp(guard->heard, "accepted") != 0)
@@ -703,6 +716,7 @@ soter_guard *soter_guard_open(const soter_guard_options *options)
     }
     guard->options = *options;
     guard->process = guard->to = guard->from = -1;
+    guard->time = options->first_time;
     guard->is_trusted = 1;
     if (open_talk(guard) != SOTER_GUARD_DONE) {
         free(guard->outline);

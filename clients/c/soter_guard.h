@@ -43,6 +43,7 @@ typedef struct {
     void (*fallback)(void *user, const char *why); /* brings the robot to rest without a guard */
     void *user;
     int log;                    /* a file descriptor for both sides of the talk; -1 for none */
+    int64_t first_time;         /* the time in ticks at which the talk begins, from 0 on */
 } soter_guard_options;
 
 /* What the guard said of one instant. The lines stand until the next call. */

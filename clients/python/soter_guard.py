@@ -203,16 +203,16 @@ class Guard:
     def __init__(self, mission: Union[str, 'os.PathLike[str]'], fallback: Callable[[str], None],
                  program: Union[str, Sequence[str]] = 'soter_guard', deadline: float = 0.1,
                  opening_deadline: float = 60.0, decimals: Optional[Mapping[str, int]] = None,
-                 log: Union[str, 'os.PathLike[str]', None] = None):
+                 log: Union[str, 'os.PathLike[str]', None] = None, first_time: int = 0):
         """Starts the program with the mission of a file, and waits until it is accepted and the guard has said what it has.
 
         `decimals` are counts that the robot takes for granted; ValueError where the mission has others. `fallback` brings the robot to rest without a guard, and is told why. `deadline` is the longest time in
         seconds for an answer, and `opening_deadline` that for the check of the mission. `log` is a file for both
-        sides of the talk, as `scripts/picture` reads it.
+        sides of the talk, as `scripts/picture` reads it. `first_time` is the time in ticks at which the talk begins.
         """
         with open(mission, encoding='latin-1', newline='') as file:
             front = front_of(file.read())
-        self.deadline, self.time, self.is_trusted = deadline, 0, True
+        self.deadline, self.time, self.is_trusted = deadline, first_time, True
         self.due: Set[str] = set()
         self.lost: Optional[str] = None
         self._fallback, self._turn = fallback, 'start'
@@ -235,7 +235,7 @@ class Guard:
             self._lose(f'the program does not start: {why}')
         os.set_blocking(self._process.stdin.fileno(), False)
         os.set_blocking(self._process.stdout.fileno(), False)
-        self._tell(front + '%observed\n')
+        self._tell(front + (f'%observed {self.time}\n' if self.time else '%observed\n'))
         self._pump(lambda: self._lines and (self._lines[0] != 'accepted' or LAST_SAID in self._lines), seconds)
         if self._lines[0] != 'accepted':
             self._lose(f'the mission is not accepted: {self._lines[0]}')
@@ -282,7 +282,7 @@ class Guard:
         self._say(''.join(lines))
         self._pump(lambda: self._lines, self.deadline)
         begun = self._lines.pop(0).split(' ')
-        if begun[:2] != ['0', 'begins'] or not set(begun[2:]) <= set(self.mission.drafts):
+        if begun[:2] != [str(self.time), 'begins'] or not set(begun[2:]) <= set(self.mission.drafts):
             self._lose(f'the talk does not begin: {" ".join(begun)}')
         self.due = set(begun[2:])
 

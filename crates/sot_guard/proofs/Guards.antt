@@ -25,7 +25,7 @@ use Rattle.sot_tube.specs.Certified.{IsWellCertified}
 use Rattle.sot_tube.specs.WellFormed.{IsWellFormed}
 use Rattle.sot_tube.proofs.Certificate.{certified_well}
 use Rattle.sot_world.specs.declared.mode.Mode.TheVariants.{Sc}
-use Rattle.sot_world.specs.Configurations.{Configuration, IsOpening, mode_of, locals_of, point_of}
+use Rattle.sot_world.specs.Configurations.{Configuration, mode_of, locals_of, point_of}
 use Rattle.sot_world.specs.Steps.{Inputs, Fires, published, is_enabled}
 use Rattle.sot_world.specs.Calendar.{NothingLeft}
 use Rattle.sot_world.specs.Changes.{IsThere, AreThere, ArePoints}
@@ -38,6 +38,7 @@ use Rattle.sot_guard.specs.Guarding.{IsGuarding, last_time}
 use Rattle.sot_guard.specs.Outside.{HaveBoxes}
 use Rattle.sot_guard.specs.Running.{MayRunOn}
 use Rattle.sot_guard.specs.Resuming.{AreHeldSafe}
+use Rattle.sot_guard.specs.Beginning.{IsOpeningAt}
 use Rattle.sot_guard.proofs.Holding.{held_starts_keep_tubes}
 
 published_within : (p : Tables) (b : Bool) (ws : List ℕ) (draft : List (Option ℤ)) (xs : List ℤ) → IsWithin (scalar_ranges p) xs
@@ -164,14 +165,14 @@ module _ (a : Admitted) (t : Bool) (C : Configuration) (g : IsGuarding a t C) wh
           (cases_eq i n))
 
 -- what is kept at an opening that is held safe
-pub opened_guards : (a : Admitted) (start : List (List ℤ)) (C : Configuration) → MeetsTableRules a.program → IsWellCertified a.program a.cert.jitter a.cert
-    → IsOpening a.program start C → AreHeldSafe a.program a.cert.jitter C → IsGuarding a true C
-opened_guards a start C rules certified o held =
-    let h = held_starts_keep_tubes a.program a.cert start C rules certified o held in
+pub opened_guards : (a : Admitted) (t : ℕ) (start : List (List ℤ)) (C : Configuration) → t ≤ last_time → MeetsTableRules a.program
+    → IsWellCertified a.program a.cert.jitter a.cert → IsOpeningAt a.program t start C → AreHeldSafe a.program a.cert.jitter C → IsGuarding a true C
+opened_guards a t start C within rules certified o held =
+    let h = held_starts_keep_tubes a.program a.cert t start C rules certified o held in
     record {
       rules = rules;
       certified = certified;
-      time = omega (arith, o.time);
+      time = omega (arith, o.time_is, within);
       scalars = h.keeps.scalars;
       locals = h.keeps.locals;
       sizes = o.sizes;

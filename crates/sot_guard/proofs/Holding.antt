@@ -1,29 +1,34 @@
 -- Plants that are held safe: their modules keep tubes, at an opening and where trust comes back.
-use Rattle.std.proofs.Common.{◌≡◌, ℕ, ℤ, true, ◌↔◌, List, [], map, refl, sym, ap, ◌∙◌, subst, arith}
-use Rattle.std.specs.Prelude.{slice_index_or, ◌==◌}
+use Rattle.std.proofs.Common.{◌≡◌, ℕ, ◌+◌, ◌*◌, ◌≤◌, ℤ, Bool, true, false, ◌↔◌, inr, List, [], length, map, refl, sym, ap, ◌∙◌, subst, arith}
+use Rattle.std.specs.Prelude.{slice_index_or}
 use Rattle.std.proofs.lemmas.Bool.{false≢true}
+use Rattle.std.proofs.lemmas.List.{length-map}
 use Rattle.std.proofs.lemmas.Option.{get_or_from_slice_get}
 use Rattle.sot_lists.specs.Places.{At}
 use Rattle.sot_lists.proofs.Places.{at_map}
 use Rattle.sot_box.specs.Boxes.{IsWithin, point_box}
+use Rattle.sot_box.proofs.Ranges.{within_picked}
 use Rattle.sot_calendar.specs.Due.{IsDue}
-use Rattle.sot_calendar.proofs.Clock.{last_now}
+use Rattle.sot_calendar.proofs.Clock.{last_now, until_bound}
 use Rattle.sot_lang.specs.declared.tables.NodeInfo.{NodeInfo}
 use Rattle.sot_lang.specs.declared.tables.ModuleInfo.{ModuleInfo}
 use Rattle.sot_lang.specs.Tables.{Tables}
-use Rattle.sot_lang.specs.Ranges.{local_ranges, scalar_ranges}
+use Rattle.sot_lang.specs.TableRules.{MeetsTableRules}
+use Rattle.sot_lang.specs.Ranges.{input_ranges, local_ranges, scalar_ranges}
+use Rattle.sot_iv.proofs.NarrowBoxes.{point_narrower}
 use Rattle.sot_tube.proofs.Tubes.{tube_inside, within_box_of}
+use Rattle.sot_tube.proofs.Certificate.{certified_well, in_some_box}
+use Rattle.sot_world.specs.declared.mode.Mode.{Mode}
 use Rattle.sot_world.specs.declared.mode.Mode.TheVariants.{Ac, Sc}
-use Rattle.sot_world.specs.Configurations.{Configuration, IsOpening, IsSized, is_left, is_left_dm, mode_of, locals_of, point_of, commands}
+use Rattle.sot_world.specs.Configurations.{Configuration, IsSized, is_left, is_left_dm, mode_of, locals_of, point_of, commands}
 use Rattle.sot_world.specs.Opens.{AreStarts}
 use Rattle.sot_world.proofs.Modes.{every_sc}
-use Rattle.sot_world.proofs.Starting.{opens_so}
 use Rattle.sot_law_observed_runs.specs.Tubes.{KeepsTubes}
-use Rattle.sot_law_observed_runs.proofs.Steps.{opening_keeps}
+use Rattle.sot_law_observed_runs.proofs.Follows.{tube_fewer, tube_narrower}
 use Rattle.sot_guard.specs.Guarding.{Guarding}
 use Rattle.sot_guard.specs.HeldParts.{AnswersAt, IsFirstAnswer, AreAnswered}
-use Rattle.sot_guard.specs.Resuming.{HoldsFor, IsHeldSafe, IsFirstUnsafe, AreHeldSafe, AtOpening, IsStartUnsafe, StaysUnsafe}
-use Rattle.sot_guard.specs.Resuming.{SaferStartsAreHeldSafe, HeldStartsKeepTubes}
+use Rattle.sot_guard.specs.Resuming.{HoldsFor, IsHeldSafe, IsFirstUnsafe, AreHeldSafe, StaysUnsafe}
+use Rattle.sot_guard.specs.Beginning.{IsOpeningAt, AtOpening, IsStartUnsafe, OpensRunsAtZero, SaferStartsAreHeldSafe, HeldStartsKeepTubes}
 use Rattle.sot_guard.proofs.Untils.{until_same, due_flags}
 
 -- the nodes that are left are those that are due
@@ -54,29 +59,68 @@ held_keeps p j C scalars locals sizes left left_dm modes held = record {
   sc = λ m a plant sc q at_m at_p at_s mode u. held m a plant q at_m at_p (sc, at_s, u);
 }
 
-opening_sc : (p : Tables) (start : List (List ℤ)) (C : Configuration) → IsOpening p start C → (m : ℕ) → mode_of C m ≡ Sc
-opening_sc p start C o m = ap (λ l. slice_index_or l m Sc) o.modes ∙ every_sc p.modules m
+opening_sc : (p : Tables) (t : ℕ) (start : List (List ℤ)) (C : Configuration) → IsOpeningAt p t start C → (m : ℕ) → mode_of C m ≡ Sc
+opening_sc p t start C o m = ap (λ l. slice_index_or l m Sc) o.modes ∙ every_sc p.modules m
+
+-- scalars lie in their ranges at the opening
+opening_scalars : (p : Tables) (t : ℕ) (start : List (List ℤ)) (C : Configuration) → MeetsTableRules p → IsOpeningAt p t start C
+    → IsWithin (scalar_ranges p) C.scalars
+opening_scalars p t start C rules o = subst (IsWithin (scalar_ranges p)) (sym o.scalars) rules.typed.inits
+
+pub opens_runs_at_zero : OpensRunsAtZero
+opens_runs_at_zero p start C = (
+  (λ o. record {
+    time = o.time_is;
+    left = o.left;
+    left_dm = o.left_dm;
+    modes = o.modes;
+    scalars = o.scalars;
+    locals = o.locals;
+    points = o.points;
+    sizes = o.sizes;
+    widths = o.widths;
+  }),
+  (λ o. record {
+    time_is = o.time;
+    left = o.left;
+    left_dm = o.left_dm;
+    modes = o.modes;
+    scalars = o.scalars;
+    locals = o.locals;
+    points = o.points;
+    sizes = o.sizes;
+    widths = o.widths;
+  }),
+)
 
 pub held_starts_keep_tubes : HeldStartsKeepTubes
-held_starts_keep_tubes p cert start C rules certified o held = held_keeps p cert.jitter C scalars locals o.sizes left left_dm (opening_sc p start C o) held
+held_starts_keep_tubes p cert t start C rules certified o held =
+    held_keeps p cert.jitter C (opening_scalars p t start C rules o) locals o.sizes left left_dm (opening_sc p t start C o) held
   where
-    scalars : IsWithin (scalar_ranges p) C.scalars
-    scalars = subst (IsWithin (scalar_ranges p)) (sym o.scalars) rules.typed.inits
-
     locals : (n : ℕ) (node : NodeInfo) → At p.nodes n node → IsWithin (local_ranges node) (locals_of C n)
     locals n node at = subst (λ l. IsWithin (local_ranges node) (slice_index_or l n [])) (sym o.locals)
         (subst (IsWithin (local_ranges node)) (sym (get_or_from_slice_get (map (λ k. map (λ l. l.init) k.locals.items) p.nodes) n _ []
         (at_map (λ k. map (λ l. l.init) k.locals.items) p.nodes n node at))) (rules.typed.local_inits n node at))
 
     left : LeftIsDueNow p C
-    left n node at = subst (λ t. (is_left C n ≡ true) ↔ IsDue node.period node.offset t) (sym o.time) (o.left n node at)
+    left n node at = subst (λ k. (is_left C n ≡ true) ↔ IsDue node.period node.offset k) (sym o.time_is) (o.left n node at)
 
     left_dm : DecisionsAreDueNow p C
-    left_dm m a at = subst (λ t. (is_left_dm C m ≡ true) ↔ IsDue a.period a.offset t) (sym o.time) (o.left_dm m a at)
+    left_dm m a at = subst (λ k. (is_left_dm C m ≡ true) ↔ IsDue a.period a.offset k) (sym o.time_is) (o.left_dm m a at)
 
+-- the tube of any commands from a point of the safer region stays inside for longer than the safe node may take
 pub safer_starts_are_held_safe : SaferStartsAreHeldSafe
-safer_starts_are_held_safe p cert start C rules certified o safer m a plant q at_m at_p fires =
-    (opening_keeps p cert rules certified start C o safer).sc m a plant fires.0 q at_m at_p fires.1 (opening_sc p start C o m) fires.2
+safer_starts_are_held_safe p cert t start C rules certified o safer m a plant q at_m at_p (sc, at_s, u) =
+    let s = point_of C a.plant in
+    let c = commands plant C in
+    let e = certified.entries m a at_m in
+    let box = in_some_box e.0.reach.boxes s (certified.reach_cover m a e.0 at_m e.1 s (safer m a at_m)) in
+    let bound : q ≤ sc.period + cert.jitter = until_bound cert.jitter (is_left C a.sc) sc.period sc.offset C.time q (rules.typed.node_times a.sc sc at_s) u in
+    let per : sc.period ≤ a.period = (certified_well p cert.jitter cert rules.typed certified).periods m a at_m sc (inr at_s) in
+    let types : IsWithin (input_ranges p plant) c = within_picked (scalar_ranges p) C.scalars plant.inputs.items (opening_scalars p t start C rules o) in
+    tube_fewer p plant (point_box c) a.safe.boxes (point_box s) q (2 * (a.period + cert.jitter)) (omega (arith, bound, per))
+    (tube_narrower p rules a.plant plant at_p (point_box c) (input_ranges p plant) a.safe.boxes (point_box s) box.1 (2 * (a.period + cert.jitter))
+    (point_narrower (input_ranges p plant) c types) (point_narrower box.1 s box.3) (certified.reach_cells m a plant e.0 box.0 box.1 at_m at_p e.1 box.2))
 
 -- what the test of each module answers, where exactly what is due is left
 module _ (p : Tables) (j : ℕ) (C : Configuration) (left : LeftIsDueNow p C) where
@@ -103,35 +147,75 @@ module _ (p : Tables) (j : ℕ) (C : Configuration) (left : LeftIsDueNow p C) wh
         before = λ k lt. held_at k (first.before k lt);
       }
 
--- the opening at these points
-abbrev pub opening_at : Tables → List (List ℤ) → Configuration
-opening_at p start = record {
-  time = 0;
-  left = map (λ k. k.offset == 0) p.nodes;
-  left_dm = map (λ k. k.offset == 0) p.modules;
-  modes = map (λ m. Sc) p.modules;
-  scalars = map (λ i. i.init) p.scalars;
-  locals = map (λ n. map (λ l. l.init) n.locals.items) p.nodes;
-  points = start;
+-- an opening at a time
+pub opens_at : (p : Tables) (t : ℕ) (start : List (List ℤ)) (left left_dm : List Bool) (modes : List Mode) (scalars : List ℤ) (locals points : List (List ℤ))
+    → AreStarts p start
+    → ((n : ℕ) (node : NodeInfo) → At p.nodes n node → (slice_index_or left n false ≡ true) ↔ IsDue node.period node.offset t)
+    → ((m : ℕ) (a : ModuleInfo) → At p.modules m a → (slice_index_or left_dm m false ≡ true) ↔ IsDue a.period a.offset t)
+    → length left ≡ length p.nodes → length left_dm ≡ length p.modules → modes ≡ map (λ m. Sc) p.modules → scalars ≡ map (λ i. i.init) p.scalars
+    → locals ≡ map (λ n. map (λ l. l.init) n.locals.items) p.nodes → points ≡ start
+    → IsOpeningAt p t start (record { time = t; left = left; left_dm = left_dm; modes = modes; scalars = scalars; locals = locals; points = points })
+opens_at p t start left left_dm modes scalars locals points starts due due_dm many many_dm m s k q = record {
+  time_is = refl;
+  left = due;
+  left_dm = due_dm;
+  modes = m;
+  scalars = s;
+  locals = k;
+  points = q;
+  sizes = record {
+    left = many;
+    left_dm = many_dm;
+    modes = ap length m ∙ length-map p.modules (λ x. Sc);
+    scalars = ap length s ∙ length-map p.scalars (λ i. i.init);
+    locals = ap length k ∙ length-map p.nodes (λ n. map (λ l. l.init) n.locals.items);
+    points = ap length q ∙ starts.each;
+  };
+  widths = λ i plant at. ap (λ ps. length (slice_index_or ps i [])) q ∙ starts.widths i plant at;
 }
 
-module _ (p : Tables) (j : ℕ) (start : List (List ℤ)) (starts : AreStarts p start) where
-  pub opens : IsOpening p start (opening_at p start)
-  opens = opens_so p start _ _ _ _ _ _ starts refl refl refl refl refl refl
+-- an opening whose modules all pass the test, or of which one is the first that does not
+module _ (p : Tables) (j t : ℕ) (start : List (List ℤ)) (C : Configuration) (o : IsOpeningAt p t start C) where
+  left_now : LeftIsDueNow p C
+  left_now n node at = subst (λ k. (is_left C n ≡ true) ↔ IsDue node.period node.offset k) (sym o.time_is) (o.left n node at)
 
-  pub start_held : AreAnswered p j start → AtOpening p start (λ C. AreHeldSafe p j C)
-  start_held answers = (opening_at p start, opens, λ m. held_at p j (opening_at p start) opens.left m (answers m))
+  pub opening_held : AreAnswered p j t start → AreHeldSafe p j C
+  opening_held answers m =
+      held_at p j C left_now m
+      (subst (λ k. AnswersAt p j k C.scalars C.points m true) (sym o.time_is)
+      (subst (λ s. AnswersAt p j t s C.points m true) (sym o.scalars)
+      (subst (λ ps. AnswersAt p j t (map (λ i. i.init) p.scalars) ps m true) (sym o.points) (answers m))))
 
-  pub start_unsafe : (m : ℕ) → IsFirstAnswer p j 0 (map (λ i. i.init) p.scalars) start m → IsStartUnsafe p j start m
-  start_unsafe m first = (opening_at p start, opens, first_at p j (opening_at p start) opens.left m first)
+  pub opening_unheld : (m : ℕ) → IsFirstAnswer p j t (map (λ i. i.init) p.scalars) start m → IsFirstUnsafe p j C m
+  opening_unheld m first =
+      first_at p j C left_now m
+      (subst (λ k. IsFirstAnswer p j k C.scalars C.points m) (sym o.time_is)
+      (subst (λ s. IsFirstAnswer p j t s C.points m) (sym o.scalars)
+      (subst (λ ps. IsFirstAnswer p j t (map (λ i. i.init) p.scalars) ps m) (sym o.points) first)))
 
--- an opening whose modules all pass the test
-pub opening_held : (p : Tables) (j : ℕ) (start : List (List ℤ)) (C : Configuration) → IsOpening p start C → AreAnswered p j start → AreHeldSafe p j C
-opening_held p j start C o answers m =
-    held_at p j C (λ n node at. subst (λ t. (is_left C n ≡ true) ↔ IsDue node.period node.offset t) (sym o.time) (o.left n node at)) m
-    (subst (λ t. AnswersAt p j t C.scalars C.points m true) (sym o.time)
-    (subst (λ s. AnswersAt p j 0 s C.points m true) (sym o.scalars)
-    (subst (λ ps. AnswersAt p j 0 (map (λ i. i.init) p.scalars) ps m true) (sym o.points) (answers m))))
+module _ (p : Tables) (j t : ℕ) (start : List (List ℤ)) (starts : AreStarts p start) where
+  opens : AtOpening p t start (λ C. Unit {0})
+  opens =
+      let nodes = due_flags (λ (n : NodeInfo). n.period) (λ n. n.offset) t p.nodes in
+      let modules = due_flags (λ (a : ModuleInfo). a.period) (λ a. a.offset) t p.modules in (
+        record {
+          time = t;
+          left = nodes.0;
+          left_dm = modules.0;
+          modes = map (λ m. Sc) p.modules;
+          scalars = map (λ i. i.init) p.scalars;
+          locals = map (λ n. map (λ l. l.init) n.locals.items) p.nodes;
+          points = start;
+        },
+        opens_at p t start _ _ _ _ _ _ starts nodes.2 modules.2 nodes.1 modules.1 refl refl refl refl,
+        tt,
+      )
+
+  pub start_held : AreAnswered p j t start → AtOpening p t start (λ C. AreHeldSafe p j C)
+  start_held answers = (opens.0, opens.1, opening_held p j t start opens.0 opens.1 answers)
+
+  pub start_unsafe : (m : ℕ) → IsFirstAnswer p j t (map (λ i. i.init) p.scalars) start m → IsStartUnsafe p j t start m
+  start_unsafe m first = (opens.0, opens.1, opening_unheld p j t start opens.0 opens.1 m first)
 
 -- with what is due left, a module does not pass the test
 pub stays_unsafe : (g : Guarding) (m : ℕ) → IsSized g.accepted.program g.at

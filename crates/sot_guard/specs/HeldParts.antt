@@ -54,6 +54,6 @@ pub record IsFirstAnswer (p : Tables) (jitter time : ℕ) (scalars : List ℤ)
   pub before : (k : ℕ) → k < m → AnswersAt p jitter time scalars points k true
 
 -- every module's plant stays so at the beginning
-abbrev pub AreAnswered : Tables → ℕ → List (List ℤ) → Type 0
-AreAnswered p jitter start =
-    (m : ℕ) → AnswersAt p jitter 0 (map (λ i. i.init) p.scalars) start m true
+abbrev pub AreAnswered : Tables → ℕ → ℕ → List (List ℤ) → Type 0
+AreAnswered p jitter time start =
+    (m : ℕ) → AnswersAt p jitter time (map (λ i. i.init) p.scalars) start m true

@@ -3,6 +3,7 @@ pub mod Outside
 pub mod Guarding
 pub mod Changes
 pub mod Resuming
+pub mod Beginning
 pub mod Instants
 pub mod Examples
 pub mod Hearing

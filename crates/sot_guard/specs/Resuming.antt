@@ -1,23 +1,18 @@
 -- Which plants the commands in force hold safe until their modules' safe nodes fire, and how trust
 -- in the models comes back.
-use Rattle.std.specs.Prelude.{ℕ, ℤ, ◌<◌, true, false, List, ◌≡◌, ◌↔◌}
+use Rattle.std.specs.Prelude.{ℕ, ◌<◌, true, false, ◌≡◌, ◌↔◌}
 use Rattle.sot_lists.specs.Places.{At}
 use Rattle.sot_box.specs.Boxes.{point_box}
 use Rattle.sot_calendar.specs.Due.{IsDue, IsUntil}
-use Rattle.sot_lang.specs.declared.cert.Cert.{Cert}
 use Rattle.sot_lang.specs.declared.tables.PlantInfo.{PlantInfo}
 use Rattle.sot_lang.specs.declared.tables.NodeInfo.{NodeInfo}
 use Rattle.sot_lang.specs.declared.tables.ModuleInfo.{ModuleInfo}
 use Rattle.sot_lang.specs.Tables.{Tables}
-use Rattle.sot_lang.specs.TableRules.{MeetsTableRules}
-use Rattle.sot_tube.specs.Certified.{IsWellCertified}
 use Rattle.sot_tube.specs.Tubes.{TubeInside}
 use Rattle.sot_world.specs.declared.mode.Mode.TheVariants.{Sc}
 use Rattle.sot_world.specs.Configurations.{Configuration, is_left, is_left_dm, mode_of, point_of}
-use Rattle.sot_world.specs.Configurations.{commands, IsSized, IsOpening, IsSafer}
+use Rattle.sot_world.specs.Configurations.{commands, IsSized}
 use Rattle.sot_law_observed_runs.specs.Tubes.{KeepsTubes}
-use Rattle.sot_guard.specs.declared.begin_fail.BeginFail.{BeginFail}
-use Rattle.sot_guard.specs.declared.begin_fail.BeginFail.TheVariants.{NotHeldSafe, Memory}
 use Rattle.sot_guard.specs.Guarding.{Guarding}
 
 -- node n surely fires within q ticks
@@ -58,19 +53,6 @@ pub record IsFirstUnsafe (p : Tables) (jitter : ℕ) (C : Configuration) (m : �
   pub unheld : IsUnheld p jitter C m
   pub before : (k : ℕ) → k < m → IsHeldSafe p jitter C k
 
--- this holds of an opening at these points
-abbrev pub AtOpening : Tables → List (List ℤ) → (Configuration → Type 0) → Type 0
-AtOpening p start P = (C : Configuration) × IsOpening p start C × P C
-
--- the first module whose plant is not held safe at the opening
-abbrev pub IsStartUnsafe : Tables → ℕ → List (List ℤ) → ℕ → Type 0
-IsStartUnsafe p jitter start m = AtOpening p start (λ C. IsFirstUnsafe p jitter C m)
-
--- of a refused beginning that is no want of memory, this holds of the module
-abbrev pub IfNotHeld : BeginFail → (ℕ → Type 0) → Type 0
-IfNotHeld (NotHeldSafe m) P = P m
-IfNotHeld Memory P = Unit {0}
-
 -- what is left to fire and to be decided is what is due now, and nothing else changes
 pub record LeavesWhatIsDue (p : Tables) (C D : Configuration) : Type 0 where
   pub left : (n : ℕ) (node : NodeInfo) → At p.nodes n node
@@ -96,17 +78,3 @@ pub record StaysUnsafe (g : Guarding) (m : ℕ) : Type 0 where
   pub due : Configuration
   pub leaves : LeavesWhatIsDue g.accepted.program g.at due
   pub first : IsFirstUnsafe g.accepted.program g.accepted.cert.jitter due m
-
--- an opening in the safer regions is held safe
-abbrev pub SaferStartsAreHeldSafe : Type 0
-SaferStartsAreHeldSafe =
-    (p : Tables) (cert : Cert) (start : List (List ℤ)) (C : Configuration) → MeetsTableRules p
-    → IsWellCertified p cert.jitter cert → IsOpening p start C → IsSafer p C
-    → AreHeldSafe p cert.jitter C
-
--- an opening that is held safe keeps tubes
-abbrev pub HeldStartsKeepTubes : Type 0
-HeldStartsKeepTubes =
-    (p : Tables) (cert : Cert) (start : List (List ℤ)) (C : Configuration) → MeetsTableRules p
-    → IsWellCertified p cert.jitter cert → IsOpening p start C → AreHeldSafe p cert.jitter C
-    → KeepsTubes p cert.jitter C

@@ -1,7 +1,7 @@
 //! What is due at a time, and how long it is until a node fires.
 
 ghost use Rattle.std.specs.Prelude.{◌≡◌, ℕ, ◌<◌, ◌≤◌, ◌⊎◌, ◌↔◌, true, false, length};
-ghost use Rattle.std.specs.Prelude.{slice_index_or, IsTrue};
+ghost use Rattle.std.specs.Prelude.{slice_index_or, IsTrue, IfOk};
 ghost use Rattle.sot_lists.specs.Places.{At};
 ghost use Rattle.sot_calendar.specs.Due.{IsDue};
 ghost use Rattle.sot_guard.specs.Changes.{IsSafeNode};
@@ -9,7 +9,9 @@ ghost use Rattle.sot_guard.specs.HeldParts.{IsUntilFrom};
 ghost use Rattle.sot_lang.specs.declared.tables.NodeInfo.{NodeInfo as Node};
 ghost use Rattle.sot_lang.specs.declared.tables.ModuleInfo.{ModuleInfo as Module};
 
+use crate::blank::no_flags;
 use sot_lang::{ModuleInfo, NodeInfo};
+use std::alloc::{AllocError, Global};
 
 // Whether it is due at a time.
 fn is_due(period: u32, offset: u32, time: u64) -> bool
@@ -114,4 +116,36 @@ pub(crate) fn leave_due_decisions(modules: &[ModuleInfo], time: u64, left: &mut 
         let info = &modules[m];
         left[m] = is_due(info.period, info.offset, time);
     }
+}
+
+/// Flags of the nodes that are due at a time.
+pub(crate) fn nodes_due(
+    alloc: Global,
+    nodes: &[NodeInfo],
+    time: u64,
+) -> Result<Vec<bool>, AllocError>
+    requires periods { (n : ℕ) (node : Node) → At nodes.now n node → node.offset < node.period }
+    ensures left { IfOk result (λ v. (n : ℕ) (node : Node) → At nodes.now n node →
+        (slice_index_or v.items n false ≡ true) ↔ IsDue node.period node.offset time) }
+    ensures size { IfOk result (λ v. length v.items ≡ length nodes.now) }
+{
+    let mut left = no_flags(alloc, nodes)?;
+    leave_due_nodes(nodes, time, &mut left);
+    Ok(left)
+}
+
+/// Flags of the modules whose decisions are due at a time.
+pub(crate) fn decisions_due(
+    alloc: Global,
+    modules: &[ModuleInfo],
+    time: u64,
+) -> Result<Vec<bool>, AllocError>
+    requires periods { (m : ℕ) (a : Module) → At modules.now m a → a.offset < a.period }
+    ensures left { IfOk result (λ v. (m : ℕ) (a : Module) → At modules.now m a →
+        (slice_index_or v.items m false ≡ true) ↔ IsDue a.period a.offset time) }
+    ensures size { IfOk result (λ v. length v.items ≡ length modules.now) }
+{
+    let mut left = vec![in alloc; false; modules.len()]?;
+    leave_due_decisions(modules, time, &mut left);
+    Ok(left)
 }

@@ -2,20 +2,22 @@
 
 ghost use Rattle.std.specs.Prelude.{◌≡◌, ◌<◌, ◌≤◌, true, length, IfOk, IfErr, IsErrOf};
 ghost use Rattle.sot_world.specs.Configurations.{is_left, is_left_dm, mode_of, number_of};
-ghost use Rattle.sot_world.specs.Configurations.{point_of, IsOpening};
+ghost use Rattle.sot_world.specs.Configurations.{point_of};
 ghost use Rattle.sot_world.specs.Opens.{AreStarts};
 ghost use Rattle.sot_guard.specs.Guarding.{IsGuarding, last_time};
 ghost use Rattle.sot_guard.specs.HeldParts.{AreAnswered};
-ghost use Rattle.sot_guard.specs.Resuming.{AreHeldSafe, AtOpening, IsStartUnsafe, IfNotHeld};
+ghost use Rattle.sot_guard.specs.Resuming.{AreHeldSafe};
+ghost use Rattle.sot_guard.specs.Beginning.{IsOpeningAt, AtOpening, IsStartUnsafe, IfNotHeld};
 
 use crate::begin_fail::BeginFail;
+use crate::due::{decisions_due, nodes_due};
 use crate::held::first_unheld_start;
 use crate::put::put_points;
 use sot_box::Point;
 use sot_code::Locals;
 use sot_lang::Typed;
 use sot_tube::Accepted;
-use sot_world::{Mode, all_locals, decisions_left, initial_scalars, nodes_left, safe_modes};
+use sot_world::{Mode, all_locals, initial_scalars, safe_modes};
 use std::alloc::{AllocError, Global};
 use std::marker::Model;
 
@@ -58,9 +60,9 @@ impl<'a> Model for Guard<'a> {
 }
 
 impl<'a> Guard<'a> {
-    /// The opening of a program at these points, one for each plant with a coordinate for each of
-    /// its state variables: time 0, all that is due left, every module in mode Sc. It takes all
-    /// memory that the guard will ever need.
+    /// The opening of a program at this time, in ticks, and at these points, one for each plant with
+    /// a coordinate for each of its state variables: all that is due then is left, and every module
+    /// is in mode Sc. It takes all memory that the guard will ever need.
     ///
     /// `NotHeldSafe` names the first module whose plant the first commands do not hold safe until
     /// the module's safe node fires; `Memory` says that there is none, and comes only where they
@@ -68,24 +70,27 @@ impl<'a> Guard<'a> {
     pub fn begin(
         alloc: Global,
         acc: &'a Accepted<'a>,
+        time: u64,
         start: &[Point],
     ) -> Result<Guard<'a>, BeginFail>
-        requires { AreStarts acc.now.program start.now }
-        ensures opening { IfOk result (λ g. IsOpening acc.now.program start.now g.at) }
+        requires starts { AreStarts acc.now.program start.now }
+        requires horizon { time ≤ last_time }
+        ensures opening { IfOk result (λ g. IsOpeningAt acc.now.program time start.now g.at) }
         ensures held { IfOk result (λ g.
             AreHeldSafe acc.now.program acc.now.cert.jitter g.at) }
         ensures trusted { IfOk result (λ g. g.trusted ≡ true) }
         ensures accepted { IfOk result (λ g. g.accepted ≡ acc.now) }
         ensures not_held { IfErr result (λ f.
-            IfNotHeld f (λ m. IsStartUnsafe acc.now.program acc.now.cert.jitter start.now m)) }
-        ensures memory { IsErrOf result BeginFail.Memory → AtOpening acc.now.program start.now
-            (λ C. AreHeldSafe acc.now.program acc.now.cert.jitter C) }
+            IfNotHeld f (λ m. IsStartUnsafe acc.now.program acc.now.cert.jitter time start.now
+            m)) }
+        ensures memory { IsErrOf result BeginFail.Memory → AtOpening acc.now.program time
+            start.now (λ C. AreHeldSafe acc.now.program acc.now.cert.jitter C) }
     {
         let p = acc.typed();
-        if let Some(module) = first_unheld_start(p, acc.cert().jitter, start) {
+        if let Some(module) = first_unheld_start(p, acc.cert().jitter, time, start) {
             return Err(BeginFail::NotHeldSafe { module });
         }
-        match Guard::at_start(alloc, acc, start) {
+        match Guard::at_start(alloc, acc, time, start) {
             Ok(guard) => Ok(guard),
             Err(_) => Err(BeginFail::Memory),
         }
@@ -94,19 +99,21 @@ impl<'a> Guard<'a> {
     fn at_start(
         alloc: Global,
         acc: &'a Accepted<'a>,
+        time: u64,
         start: &[Point],
     ) -> Result<Guard<'a>, AllocError>
         requires starts { AreStarts acc.now.program start.now }
-        requires held { AreAnswered acc.now.program acc.now.cert.jitter start.now }
-        ensures opening { IfOk result (λ g. IsOpening acc.now.program start.now g.at) }
+        requires horizon { time ≤ last_time }
+        requires held { AreAnswered acc.now.program acc.now.cert.jitter time start.now }
+        ensures opening { IfOk result (λ g. IsOpeningAt acc.now.program time start.now g.at) }
         ensures held { IfOk result (λ g.
             AreHeldSafe acc.now.program acc.now.cert.jitter g.at) }
         ensures trusted { IfOk result (λ g. g.trusted ≡ true) }
         ensures accepted { IfOk result (λ g. g.accepted ≡ acc.now) }
     {
         let p = acc.typed();
-        let left = nodes_left(alloc, &p.nodes)?;
-        let left_dm = decisions_left(alloc, &p.modules)?;
+        let left = nodes_due(alloc, &p.nodes, time)?;
+        let left_dm = decisions_due(alloc, &p.modules, time)?;
         let modes = safe_modes(alloc, &p.modules)?;
         let scalars = initial_scalars(alloc, &p.scalars)?;
         let locals = all_locals(alloc, &p.nodes)?;
@@ -114,7 +121,7 @@ impl<'a> Guard<'a> {
         Ok(Guard {
             accepted: acc,
             trusted: true,
-            time: 0,
+            time,
             left,
             left_dm,
             modes,

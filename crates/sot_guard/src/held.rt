@@ -63,17 +63,17 @@ fn is_held_now(
     is_held(p, module, jitter, time, held.as_slice(), &points[plant])
 }
 
-// Whether the first commands hold a module's plant safe at the beginning.
-fn is_held_first(p: &Typed, module: u32, jitter: u32, points: &[Point]) -> bool
+// Whether the first commands hold a module's plant safe, where all begins at a time.
+fn is_held_first(p: &Typed, module: u32, jitter: u32, time: u64, points: &[Point]) -> bool
     requires there { «module» < length p.now.modules }
     requires may { MayBeHeld p.now jitter points.now }
-    ensures { AnswersAt p.now jitter 0 (map (λ i. i.init) p.now.scalars) points.now «module»
+    ensures { AnswersAt p.now jitter time (map (λ i. i.init) p.now.scalars) points.now «module»
         result }
 {
     let plant = p.modules[module as usize].plant as usize;
     let mut held = Ranges::none();
     put_first_commands(&p.plants[plant].inputs, &p.scalars, &mut held);
-    is_held(p, module, jitter, 0, held.as_slice(), &points[plant])
+    is_held(p, module, jitter, time, held.as_slice(), &points[plant])
 }
 
 /// The first module whose plant the present commands do not hold safe until its safe node fires,
@@ -100,17 +100,17 @@ pub(crate) fn first_unheld(
     None
 }
 
-/// The first module whose plant the first commands do not hold safe until its safe node fires.
-/// Takes no memory.
-pub(crate) fn first_unheld_start(p: &Typed, jitter: u32, points: &[Point]) -> Option<u32>
+/// The first module whose plant the first commands do not hold safe until its safe node fires, where
+/// all begins at a time. Takes no memory.
+pub(crate) fn first_unheld_start(p: &Typed, jitter: u32, time: u64, points: &[Point]) -> Option<u32>
     requires { MayBeHeld p.now jitter points.now }
     ensures { MatchOption result
-        ((m : ℕ) → AnswersAt p.now jitter 0 (map (λ i. i.init) p.now.scalars) points.now m true)
-        (λ m. IsFirstAnswer p.now jitter 0 (map (λ i. i.init) p.now.scalars) points.now m) }
+        ((m : ℕ) → AnswersAt p.now jitter time (map (λ i. i.init) p.now.scalars) points.now m true)
+        (λ m. IsFirstAnswer p.now jitter time (map (λ i. i.init) p.now.scalars) points.now m) }
 {
     let count = p.modules.len() as u32;
     for module in 0..count {
-        if !is_held_first(p, module, jitter, points) {
+        if !is_held_first(p, module, jitter, time, points) {
             return Some(module);
         }
     }

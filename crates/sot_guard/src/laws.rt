@@ -1,11 +1,17 @@
 //! Each of these functions does nothing, and its contract is the law.
 
-ghost use Rattle.sot_guard.specs.Resuming.{SaferStartsAreHeldSafe, HeldStartsKeepTubes};
+ghost use Rattle.sot_guard.specs.Beginning.{SaferStartsAreHeldSafe, HeldStartsKeepTubes};
+ghost use Rattle.sot_guard.specs.Beginning.{OpensRunsAtZero};
 ghost use Rattle.sot_guard.specs.Conversations.{TrustedSessionsAreObserved};
 ghost use Rattle.sot_guard.specs.Conversations.{TrustComesBackByAResume};
 ghost use Rattle.sot_guard.specs.Conversations.{TrustedSessionsAreSafe};
 
-/// An opening in the safer regions is held safe.
+/// The opening at time 0 is the one that runs begin at.
+pub fn opens_runs_at_zero()
+    ensures { OpensRunsAtZero }
+{}
+
+/// An opening in the safer regions is held safe, at whatever time.
 pub fn safer_starts_are_held_safe()
     ensures { SaferStartsAreHeldSafe }
 {}

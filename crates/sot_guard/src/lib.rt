@@ -28,8 +28,8 @@ pub use facts::line_is_observed;
 pub use guard::{Guard, LAST_TIME};
 pub use instant::go;
 pub use laws::{
-    held_starts_keep_tubes, safer_starts_are_held_safe, trust_comes_back_by_a_resume,
-    trusted_sessions_are_observed, trusted_sessions_are_safe,
+    held_starts_keep_tubes, opens_runs_at_zero, safer_starts_are_held_safe,
+    trust_comes_back_by_a_resume, trusted_sessions_are_observed, trusted_sessions_are_safe,
 };
 pub use misheard::Misheard;
 pub use outside::{Outside, first_outside};

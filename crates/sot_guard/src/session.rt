@@ -1,8 +1,7 @@
 //! A session, instant by instant.
 
-ghost use Rattle.std.specs.Prelude.{◌≡◌, ◌<◌, ℕ, [], true, length, IfOk, IfErr, MatchResult};
+ghost use Rattle.std.specs.Prelude.{◌≡◌, ◌<◌, ◌≤◌, ℕ, [], true, length, IfOk, IfErr, MatchResult};
 ghost use Rattle.std.specs.Prelude.{MatchOption, IsErrOf};
-ghost use Rattle.sot_world.specs.Configurations.{IsOpening};
 ghost use Rattle.sot_world.specs.Opens.{AreStarts};
 ghost use Rattle.sot_guard.specs.Guarding.{last_time};
 ghost use Rattle.sot_guard.specs.Hearing.{TakesInput, TakesDraft, GoesThrough, TakesTick};
@@ -10,7 +9,8 @@ ghost use Rattle.sot_guard.specs.Hearing.{RefusesInput, RefusesDraft, RefusesGo}
 ghost use Rattle.sot_guard.specs.Hearing.{RefusesTick, NoDrafts, IsHearing, IsWithdrawn};
 ghost use Rattle.sot_guard.specs.Hearing.{PassesUnseen, Resumes, MayNotResume, RefusesResume};
 ghost use Rattle.sot_guard.specs.Hearing.{program_of};
-ghost use Rattle.sot_guard.specs.Resuming.{AreHeldSafe, AtOpening, IsStartUnsafe, IfNotHeld};
+ghost use Rattle.sot_guard.specs.Resuming.{AreHeldSafe};
+ghost use Rattle.sot_guard.specs.Beginning.{IsOpeningAt, AtOpening, IsStartUnsafe, IfNotHeld};
 ghost use Rattle.sot_guard.specs.declared.turn.SessionEvent.TheVariants.{Instant, Tick};
 
 use crate::begin_fail::BeginFail;
@@ -57,16 +57,19 @@ impl<'a> Model for Session<'a> {
 }
 
 impl<'a> Session<'a> {
-    /// A session whose plants start at these points, one for each plant with a coordinate for each
-    /// of its state variables. It takes all memory that the session will ever need. `NotHeldSafe`
-    /// and `Memory` as [`Guard::begin`] says them.
+    /// A session whose plants start at this time, in ticks, and at these points, one for each plant
+    /// with a coordinate for each of its state variables. It takes all memory that the session will
+    /// ever need. `NotHeldSafe` and `Memory` as [`Guard::begin`] says them.
     pub fn begin(
         alloc: Global,
         acc: &'a Accepted<'a>,
+        time: u64,
         start: &[Point],
     ) -> Result<Session<'a>, BeginFail>
-        requires { AreStarts acc.now.program start.now }
-        ensures opening { IfOk result (λ s. IsOpening acc.now.program start.now s.guarding.at) }
+        requires starts { AreStarts acc.now.program start.now }
+        requires horizon { time ≤ last_time }
+        ensures opening { IfOk result (λ s.
+            IsOpeningAt acc.now.program time start.now s.guarding.at) }
         ensures held { IfOk result (λ s.
             AreHeldSafe acc.now.program acc.now.cert.jitter s.guarding.at) }
         ensures trusted { IfOk result (λ s. s.guarding.trusted ≡ true) }
@@ -76,11 +79,12 @@ impl<'a> Session<'a> {
         ensures no_drafts { IfOk result (λ s. NoDrafts s) }
         ensures nothing_told { IfOk result (λ s. s.told ≡ []) }
         ensures not_held { IfErr result (λ f.
-            IfNotHeld f (λ m. IsStartUnsafe acc.now.program acc.now.cert.jitter start.now m)) }
-        ensures memory { IsErrOf result BeginFail.Memory → AtOpening acc.now.program start.now
-            (λ C. AreHeldSafe acc.now.program acc.now.cert.jitter C) }
+            IfNotHeld f (λ m. IsStartUnsafe acc.now.program acc.now.cert.jitter time start.now
+            m)) }
+        ensures memory { IsErrOf result BeginFail.Memory → AtOpening acc.now.program time
+            start.now (λ C. AreHeldSafe acc.now.program acc.now.cert.jitter C) }
     {
-        match Guard::begin(alloc, acc, start) {
+        match Guard::begin(alloc, acc, time, start) {
             Ok(guard) => match Session::around(alloc, guard) {
                 Ok(session) => Ok(session),
                 Err(_) => Err(BeginFail::Memory),

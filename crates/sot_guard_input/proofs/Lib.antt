@@ -3,3 +3,5 @@ pub mod Ends
 -- texts of whole lines, and lines that come in pieces
 pub mod LineTexts
 pub mod Pieces
+-- a numeral that is a whole text
+pub mod Marks

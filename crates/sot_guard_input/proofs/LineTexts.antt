@@ -8,7 +8,8 @@ use Rattle.sot_text.specs.LineEnds.{lines, line_len, onto_first}
 use Rattle.sot_text.proofs.Lines.{line_len-pos, line_len-le}
 use Rattle.sot_guard_input.specs.Waiting.{has_end}
 use Rattle.sot_guard_input.specs.Reading.{ends_line, IsAtMostALine}
-use Rattle.sot_guard_input.specs.Fronts.{is_observed, HasNone}
+use Rattle.sot_guard_input.specs.Marks.{is_observed}
+use Rattle.sot_guard_input.specs.Fronts.{HasNone}
 
 onto_some : (b : ℕ) (ls : List (List ℕ)) → 0 < length (onto_first b ls)
 onto_some b [] = omega arith

@@ -1,5 +1,5 @@
 -- A text that grows piece by piece.
-use Rattle.std.proofs.Common.{◌≡◌, ℕ, ◌+◌, ◌<◌, ◌≤◌, true, false, List, [], ◌∷◌, ◌++◌, Option, inl, inr}
+use Rattle.std.proofs.Common.{◌≡◌, ℕ, ◌+◌, ◌<◌, ◌≤◌, true, false, List, [], ◌∷◌, ◌++◌, Option, None, Some, inl, inr}
 use Rattle.std.proofs.Common.{length, take, drop, sym, ap, ◌∙◌, subst, append_assoc, append-nil, take-append-drop, arith}
 use Rattle.std.specs.Io.KnownBytes.{IsAtEnd}
 use Rattle.std.proofs.KnownBytes.{Consumes-nil, Consumes-trans}
@@ -19,7 +19,8 @@ use Rattle.sot_guard_input.specs.Reading.{IsPieceTooLong}
 use Rattle.sot_guard_input.specs.declared.piece.Piece.TheVariants as pieces
 use Rattle.sot_guard_input.specs.declared.front.MissionFront.{MissionFront}
 use Rattle.sot_guard_input.specs.declared.front.MissionFront.TheVariants.{Observed, Unobserved}
-use Rattle.sot_guard_input.specs.Fronts.{is_observed, HasNone, IsFront, IsMark, IsRead, Comes, IsLastFront, IsTooLong}
+use Rattle.sot_guard_input.specs.Marks.{marked_time, is_observed}
+use Rattle.sot_guard_input.specs.Fronts.{HasNone, IsFront, IsMark, IsRead, Comes, IsLastFront, IsTooLong}
 use Rattle.sot_guard_input.proofs.LineTexts.{first_alone, first_ends, ends_behind, joined_line, unended_alone, none_behind}
 
 pub reads_nil : (left : Option (List ℕ)) (waiting : List ℕ) → Reads left left waiting waiting []
@@ -168,10 +169,10 @@ some_line : (piece : List ℕ) → lines piece ≡ piece ∷ [] → 0 < length p
 some_line [] one = (let none : [] ≡ [] ∷ [] = one in absurd cc)
 some_line (b ∷ bs) one = omega arith
 
--- a line that says it is there
-is_one : (line : List ℕ) → IsAtMostALine line → is_observed line ≡ true → lines line ≡ line ∷ []
-is_one line (inl empty) says = (let never : false ≡ true = sym (ap is_observed empty) ∙ says in absurd cc)
-is_one line (inr one) says = one
+-- a mark is there
+is_one : (line : List ℕ) (time : ℕ) → IsAtMostALine line → marked_time line ≡ Some time → lines line ≡ line ∷ []
+is_one line time (inl empty) says = (let never : None ≡ Some time = sym (ap marked_time empty) ∙ says in absurd cc)
+is_one line time (inr one) says = one
 
 module _ (left left_after : Option (List ℕ)) (e : Ear) (limit start : ℕ) (text piece text_after : List ℕ)
     (reads : Reads left left_after [] e.buffer text_after) (added : text_after ≡ text ++ piece) (within : start ≤ length text)
@@ -192,27 +193,27 @@ module _ (left left_after : Option (List ℕ)) (e : Ear) (limit start : ℕ) (te
     short = (let size = ap length is in omega (arith, short, size));
   }
 
-  -- the line says it
-  pub comes_line : (front : List ℕ) → IsPiece pieces.Line left_after e piece → front ≡ take start text_after → is_observed (drop start text_after) ≡ true
-      → (mark : List ℕ) × IsFront front × IsMark mark e.ended × IsRead left left_after e limit (front ++ mark)
-  comes_line front (open_, one, ends) is says = (
+  -- the line is a mark
+  pub comes_line : (front : List ℕ) (time : ℕ) → IsPiece pieces.Line left_after e piece → front ≡ take start text_after
+      → marked_time (drop start text_after) ≡ Some time → (mark : List ℕ) × IsFront front × IsMark mark time e.ended × IsRead left left_after e limit (front ++ mark)
+  comes_line front time (open_, one, ends) is says = (
     drop start text_after,
     is_front front is,
     record {
-      one = is_one (drop start text_after) (at_most_one text piece text_after start within added part (inr one)) says;
+      one = is_one (drop start text_after) time (at_most_one text piece text_after start within added part (inr one)) says;
       is = says;
       whole = λ _. ap ends_line (longer_part text piece text_after start within added) ∙ ends_behind (drop start text) piece (some_line piece one) ∙ ends;
     },
     is_read (λ ended. (let never : false ≡ true = sym open_ ∙ ended in absurd cc)) (front ++ drop start text_after) (parted front is),
   )
 
-  -- the last line says it, or no line does
+  -- the last line is a mark, or no line is
   pub comes_last : (f : MissionFront) → IsPiece pieces.Last left_after e piece → IsLastFront text_after start f → Comes left left_after e limit f
-  comes_last (Observed front) (ended, empty, end, one) (says, is) = (
+  comes_last (Observed front time) (ended, empty, end, one) (says, is) = (
     drop start text_after,
     is_front front.items is,
     record {
-      one = is_one (drop start text_after) (at_most_one text piece text_after start within added part one) says;
+      one = is_one (drop start text_after) time (at_most_one text piece text_after start within added part one) says;
       is = says;
       whole = λ open_. (let never : false ≡ true = sym open_ ∙ ended in absurd cc);
     },
@@ -224,6 +225,6 @@ module _ (left left_after : Option (List ℕ)) (e : Ear) (limit start : ℕ) (te
     is_read (λ _. (empty, end)) all.items is,
   )
 
-  -- a line that does not say it ends its text
+  -- a line that is no mark ends its text
   pub ends_so_far : lines piece ≡ piece ∷ [] → ends_line piece ≡ true → ends_line text_after ≡ true
   ends_so_far one ends = ap ends_line added ∙ ends_behind text piece (some_line piece one) ∙ ends

@@ -8,15 +8,16 @@ ghost use Rattle.sot_guard_input.specs.Fronts.{Comes, IsTooLong, IsLastFront};
 
 use crate::ear::Ear;
 use crate::piece::{FrontFail, Piece, next_piece};
-use crate::title::is_observed;
+use crate::title::marked_time;
 use sot_ports::Source;
 use std::alloc::Global;
 
 /// What came of a text.
 #[derive(Drop)]
 pub enum MissionFront {
-    /// The text before its first line `%observed`, which was passed too.
-    Observed(Vec<u8>),
+    /// The text before its first line `%observed`, and the time at which a robot speaks behind that
+    /// line, which was passed too.
+    Observed { front: Vec<u8>, time: u64 },
     /// The whole text, which has no such line.
     Unobserved(Vec<u8>),
 }
@@ -35,10 +36,12 @@ fn last_front(text: Vec<u8>, start: usize) -> MissionFront
     requires { start ≤ length text.items }
     ensures { IsLastFront text.items start result }
 {
-    if is_observed(&text[start..]) {
-        MissionFront::Observed(cut(text, start))
-    } else {
-        MissionFront::Unobserved(text)
+    match marked_time(&text[start..]) {
+        Some(time) => MissionFront::Observed {
+            front: cut(text, start),
+            time,
+        },
+        None => MissionFront::Unobserved(text),
     }
 }
 
@@ -73,8 +76,9 @@ pub fn read_front<S: Source>(
             Piece::Last => return Ok(last_front(text, start)),
             Piece::Line => {}
         }
-        if is_observed(&text[start..]) {
-            return Ok(MissionFront::Observed(cut(text, start)));
+        if let Some(time) = marked_time(&text[start..]) {
+            let front = cut(text, start);
+            return Ok(MissionFront::Observed { front, time });
         }
         start = text.len();
     }

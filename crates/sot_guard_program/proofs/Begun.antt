@@ -16,12 +16,12 @@ use Rattle.sot_guard_program.proofs.Passing.{ended_so}
 use Rattle.sot_guard_program.proofs.Answering.{answers_heard}
 
 -- a talk about an accepted program's plants, each held safe by the first commands, stays safe
-pub stays_safe : (a : Starting) (t : Talking) → MeetsTableRules a.accepted.program
-    → IsWellCertified a.accepted.program a.accepted.cert.jitter a.accepted.cert → Begins a t → StaysSafe t
-stays_safe a t rules certified begins lines u text answers trusted =
+pub stays_safe : (time : ℕ) (a : Starting) (t : Talking) → MeetsTableRules a.accepted.program
+    → IsWellCertified a.accepted.program a.accepted.cert.jitter a.accepted.cert → Begins time a t → StaysSafe t
+stays_safe time a t rules certified begins lines u text answers trusted =
     let heard = answers_heard t u lines text answers in
     let same = sym begins.accepted in
-    let tubes = held_starts_keep_tubes a.accepted.program a.accepted.cert a.starts t.hearing.guarding.at rules certified begins.opening begins.held in
+    let tubes = held_starts_keep_tubes a.accepted.program a.accepted.cert time a.starts t.hearing.guarding.at rules certified begins.opening begins.held in
     let back = comes_back t u lines heard trusted in
     record {
       since = back.0;
@@ -34,9 +34,9 @@ stays_safe a t rules certified begins lines u text answers trusted =
     }
 
 -- what is said in a talk is said behind the starts of all plants
-pub begun : (a : Starting) (t : Talking) (ended : Bool) (e f : Ears) (x y : Mouth) (status : ℕ) → MeetsTableRules a.accepted.program
-    → IsWellCertified a.accepted.program a.accepted.cert.jitter a.accepted.cert → Begins a t
-    → Ended (SaysFrom ended (SaysBegun t (length a.starts))) e f x y status → Ended (SaysFrom ended (SaysOpened a)) e f x y status
-begun a t ended e f x y status rules certified begins r =
-    ended_so (SaysFrom ended (SaysBegun t (length a.starts))) (SaysFrom ended (SaysOpened a)) e f x y status
-    (λ said bytes text says. (inl (t, begins, stays_safe a t rules certified begins, says.0), says.1)) r
+pub begun : (time : ℕ) (a : Starting) (t : Talking) (ended : Bool) (e f : Ears) (x y : Mouth) (status : ℕ) → MeetsTableRules a.accepted.program
+    → IsWellCertified a.accepted.program a.accepted.cert.jitter a.accepted.cert → Begins time a t
+    → Ended (SaysFrom ended (SaysBegun t (length a.starts))) e f x y status → Ended (SaysFrom ended (SaysOpened time a)) e f x y status
+begun time a t ended e f x y status rules certified begins r =
+    ended_so (SaysFrom ended (SaysBegun t (length a.starts))) (SaysFrom ended (SaysOpened time a)) e f x y status
+    (λ said bytes text says. (inl (t, begins, stays_safe time a t rules certified begins, says.0), says.1)) r

@@ -16,24 +16,24 @@ use Rattle.sot_guard_program.proofs.Opened.{unopened_so, stopped_first, opened}
 use Rattle.sot_guard_program.proofs.Results.{silent}
 
 -- there is no memory to hear anything
-pub silent_first : (acc : Admitted) (e : Ears) (x : Mouth) → Ended (SaysIn (SaysRobot acc)) e e x x 6
-silent_first acc e x =
-    silent (SaysIn (SaysRobot acc)) e x
+pub silent_first : (time : ℕ) (acc : Admitted) (e : Ears) (x : Mouth) → Ended (SaysIn (SaysRobot time acc)) e e x x 6
+silent_first time acc e x =
+    silent (SaysIn (SaysRobot time acc)) e x
     (inr (inr (inr (inr (inl refl, (refl, refl))))))
 
-module _ (acc : Admitted) (a : Starting) (same : a.accepted ≡ acc) (none : a.starts ≡ []) where
+module _ (time : ℕ) (acc : Admitted) (a : Starting) (same : a.accepted ≡ acc) (none : a.starts ≡ []) where
   -- a line does not say where the next plant is observed, and that is told
   pub conversed_in_part : (e f : Ears) (x y : Mouth) (status : ℕ) (halt : Halt) → HaltsFirsts a e f halt → TellsStop halt.stop halt.line x y status
-      → Ended (SaysIn (SaysRobot acc)) e f x y status
+      → Ended (SaysIn (SaysRobot time acc)) e f x y status
   conversed_in_part e f x y status halt h =
-      stopped_first acc e f x y status halt (subst (λ (s : Starting). HaltsFirsts s e f halt) (unopened_so a acc same none) h)
+      stopped_first time acc e f x y status halt (subst (λ (s : Starting). HaltsFirsts s e f halt) (unopened_so a acc same none) h)
 
   module _ (b : Starting) (e m : Ears) (answers : AnswersFirsts a b e m (Ok tt)) where
-    pub conversed : (f : Ears) (x y : Mouth) (status : ℕ) → Ended (SaysFrom m.ended (SaysOpened b)) m f x y status
-        → Ended (SaysIn (SaysRobot acc)) e f x y status
+    pub conversed : (f : Ears) (x y : Mouth) (status : ℕ) → Ended (SaysFrom m.ended (SaysOpened time b)) m f x y status
+        → Ended (SaysIn (SaysRobot time acc)) e f x y status
     conversed f x y status =
         let of_none = subst (λ (s : Starting). AnswersFirsts s b e m (Ok tt)) (unopened_so a acc same none) answers in
-        opened acc e f x y status b m of_none.0 of_none.1
+        opened time acc e f x y status b m of_none.0 of_none.1
 
     pub accepted_same : b.accepted ≡ acc
     accepted_same = starts_same a b (lent_lines answers.0.passed) answers.0.starts ∙ same

@@ -23,40 +23,41 @@ talk_not_six t before b said spoken text (inr (inl mistakes)) = λ six. absurd (
 talk_not_six t before b said spoken text (inr (inr so_far)) = λ six. absurd (omega (arith, so_far.said_is, six))
 
 -- nothing is said behind the answer to the mission
-robot_silent : (acc : Admitted) (b : Ears) (said : ℕ) (spoken : List (List ℕ)) (text : List ℕ) → SaysRobot acc b said spoken text → said ≡ 6 → text ≡ []
-robot_silent acc b said spoken text (inl talks) six =
+robot_silent : (time : ℕ) (acc : Admitted) (b : Ears) (said : ℕ) (spoken : List (List ℕ)) (text : List ℕ) → SaysRobot time acc b said spoken text → said ≡ 6 → text ≡ []
+robot_silent time acc b said spoken text (inl talks) six =
     absurd (talk_not_six talks.first _ b said talks.more talks.says.0 talks.says.2 six)
-robot_silent acc b said spoken text (inr (inl refuses)) six = absurd (omega (arith, refuses.said_is, six))
-robot_silent acc b said spoken text (inr (inr (inl mistakes))) six = absurd (omega (arith, mistakes.said_is, six))
-robot_silent acc b said spoken text (inr (inr (inr (inl so_far)))) six = absurd (omega (arith, so_far.said_is, six))
-robot_silent acc b said spoken text (inr (inr (inr (inr never)))) six = never.1.1
+robot_silent time acc b said spoken text (inr (inl refuses)) six = absurd (omega (arith, refuses.said_is, six))
+robot_silent time acc b said spoken text (inr (inr (inl mistakes))) six = absurd (omega (arith, mistakes.said_is, six))
+robot_silent time acc b said spoken text (inr (inr (inr (inl so_far)))) six = absurd (omega (arith, so_far.said_is, six))
+robot_silent time acc b said spoken text (inr (inr (inr (inr never)))) six = never.1.1
 
 -- nothing is said behind what a robot has to know
-outline_alone : (acc : Admitted) (b : Ears) (said : ℕ) (spoken : List (List ℕ)) (text : List ℕ) → SaysOutline acc b said spoken text → said ≡ 6
-    → text ≡ outline_text acc.program
-outline_alone acc b said spoken text (more, is, says) six =
+outline_alone : (time : ℕ) (acc : Admitted) (b : Ears) (said : ℕ) (spoken : List (List ℕ)) (text : List ℕ) → SaysOutline time acc b said spoken text
+    → said ≡ 6 → text ≡ outline_text acc.program
+outline_alone time acc b said spoken text (more, is, says) six =
     let outline = outline_text acc.program in
-    is ∙ ap (λ l. outline ++ l) (robot_silent acc b said spoken more says six) ∙ append-nil outline
+    is ∙ ap (λ l. outline ++ l) (robot_silent time acc b said spoken more says six) ∙ append-nil outline
 
 abbrev SaysNoLine : List ℕ → Type 0
 SaysNoLine text = (text ≡ []) ⊎ IsAcceptance text
 
-mission_silent : (front : List ℕ) (b : Ears) (said : ℕ) (bytes text : List ℕ) → SaysMission front b said bytes text → said ≡ 6 → SaysNoLine text
-mission_silent front b said bytes text (inl (m, spells, accepts)) six =
+mission_silent : (time : ℕ) (front : List ℕ) (b : Ears) (said : ℕ) (bytes text : List ℕ) → SaysMission time front b said bytes text → said ≡ 6
+    → SaysNoLine text
+mission_silent time front b said bytes text (inl (m, spells, accepts)) six =
     let whole = accepted_text m.tables m.cert in
     inr (
       front,
       m,
       spells,
       accepts.accepted,
-      accepts.text_is ∙ ap (λ l. whole ++ l) (outline_alone _ b said _ accepts.more accepts.says six),
+      accepts.text_is ∙ ap (λ l. whole ++ l) (outline_alone time _ b said _ accepts.more accepts.says six),
     )
-mission_silent front b said bytes text (inr (inl (m, spells, one, refuses))) six = absurd (omega (arith, one, six))
-mission_silent front b said bytes text (inr (inr (inl (three, fault)))) six = absurd (omega (arith, three, six))
-mission_silent front b said bytes text (inr (inr (inr silent))) six = inl silent.1
+mission_silent time front b said bytes text (inr (inl (m, spells, one, refuses))) six = absurd (omega (arith, one, six))
+mission_silent time front b said bytes text (inr (inr (inl (three, fault)))) six = absurd (omega (arith, three, six))
+mission_silent time front b said bytes text (inr (inr (inr silent))) six = inl silent.1
 
 all_silent : (b : Ears) (said : ℕ) (bytes text : List ℕ) → SaysAll b said bytes text → said ≡ 6 → SaysNoLine text
-all_silent b said bytes text (inl divides) six = mission_silent divides.front b said divides.behind text divides.says six
+all_silent b said bytes text (inl divides) six = mission_silent divides.time divides.front b said divides.behind text divides.says six
 all_silent b said bytes text (inr (inl lacks)) six = absurd (omega (arith, lacks.said_is, six))
 all_silent b said bytes text (inr (inr (inl long))) six = absurd (omega (arith, long.said_is, six))
 all_silent b said bytes text (inr (inr (inr (inl (four, none))))) six = absurd (omega (arith, four, six))

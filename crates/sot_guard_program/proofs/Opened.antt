@@ -29,9 +29,9 @@ unopened_so a acc same none =
     let make : Admitted → List (List ℤ) → Starting = λ x s. record { accepted = x; starts = s } in
     ap₂ make same none
 
-module _ (acc : Admitted) (e f : Ears) (x y : Mouth) (status : ℕ) where
+module _ (time : ℕ) (acc : Admitted) (e f : Ears) (x y : Mouth) (status : ℕ) where
   abbrev Goal : Type 0
-  Goal = Ended (SaysIn (SaysRobot acc)) e f x y status
+  Goal = Ended (SaysIn (SaysRobot time acc)) e f x y status
 
   module _ (middle : Ears) (last : Starting) (passed : List ℕ) (line_number : ℕ) (passes : Passes e middle passed)
       (starts : Starts (unopened acc) (lent_lines passed) last) (line_is : line_number ≡ suc (length (lent_lines passed))) where
@@ -40,7 +40,7 @@ module _ (acc : Admitted) (e f : Ears) (x y : Mouth) (status : ℕ) where
         → IsAtFault (IsNoStart last) (lent_lines (passed ++ more)) (lent_lines passed) f why
         → Tells 3 (at_line line_number (misheard_word why)) x y status → Goal
     at_fault why more passes_more fault told =
-        ended_told (SaysIn (SaysRobot acc)) e f x y (passed ++ more) (at_line line_number (misheard_word why)) 3 status
+        ended_told (SaysIn (SaysRobot time acc)) e f x y (passed ++ more) (at_line line_number (misheard_word why)) 3 status
         (passes_trans e middle f passed more passes passes_more) (λ four. absurd (omega arith))
         (inr (inr (inl (record {
           heard = lent_lines passed;
@@ -62,7 +62,7 @@ module _ (acc : Admitted) (e f : Ears) (x y : Mouth) (status : ℕ) where
     stopped_by (stops.Misheard why) (inr whole) (inr (passes_none, not_a_line, long)) told =
         at_fault why [] passes_none (inr (nothing_more, not_a_line, long)) told
     stopped_by stops.Missing whole (passes_none, ends) told =
-        ended_told (SaysIn (SaysRobot acc)) e f x y (passed ++ []) (at_line line_number missing_word) 3 status
+        ended_told (SaysIn (SaysRobot time acc)) e f x y (passed ++ []) (at_line line_number missing_word) 3 status
         (passes_trans e middle f passed [] passes passes_none) (λ four. absurd (omega arith))
         (inr (inr (inl (record {
           heard = lent_lines passed;
@@ -91,7 +91,7 @@ module _ (acc : Admitted) (e f : Ears) (x y : Mouth) (status : ℕ) where
 
   -- a line does not say where the next plant is observed, and that is told
   pub stopped_first : (halt : Halt) → HaltsFirsts (unopened acc) e f halt → TellsStop halt.stop halt.line x y status
-      → Ended (SaysIn (SaysRobot acc)) e f x y status
+      → Ended (SaysIn (SaysRobot time acc)) e f x y status
   stopped_first halt h tells = stopped_by h.middle h.last h.passed halt.line h.passes h.starts h.line halt.stop h.whole h.stops tells
 
   module _ (b : Starting) (m : Ears) (h : HearsFirsts (unopened acc) b e m) (all : HasAll b) where
@@ -112,7 +112,7 @@ module _ (acc : Admitted) (e f : Ears) (x y : Mouth) (status : ℕ) where
     alone : (bytes : List ℕ) → (m.ended ≡ true → bytes ≡ []) → lent_lines bytes ≡ [] → lent_lines (h.passed ++ bytes) ≡ lent_lines h.passed
     alone bytes none empty = joined bytes none ∙ ap (λ l. lent_lines h.passed ++ l) empty ∙ append-nil (lent_lines h.passed)
 
-    says_robot : (said : ℕ) (bytes text : List ℕ) → SaysFrom m.ended (SaysOpened b) f said bytes text → SaysIn (SaysRobot acc) f said (h.passed ++ bytes) text
+    says_robot : (said : ℕ) (bytes text : List ℕ) → SaysFrom m.ended (SaysOpened time b) f said bytes text → SaysIn (SaysRobot time acc) f said (h.passed ++ bytes) text
     says_robot said bytes text (inl (t, begins, stays, talk), none) =
         let count : length b.starts ≡ length (lent_lines h.passed) = omega (arith, starts_count (unopened acc) b (lent_lines h.passed) h.starts) in
         inl (record {
@@ -131,7 +131,7 @@ module _ (acc : Admitted) (e f : Ears) (x y : Mouth) (status : ℕ) where
           opening = b;
           started = subst (λ ls. Starts (unopened acc) ls b) (sym (alone bytes none empty)) h.starts;
           all = all;
-          unheld = subst (λ (a : Admitted). IsUnheldLine a b.starts text) same unheld;
+          unheld = subst (λ (a : Admitted). IsUnheldLine time a b.starts text) same unheld;
           said_is = is;
         }))
     says_robot said bytes text (inr (inr (empty, (is, nothing))), none) =
@@ -139,6 +139,6 @@ module _ (acc : Admitted) (e f : Ears) (x y : Mouth) (status : ℕ) where
         inr (inr (inr (inr (inr (b, started, all), (is, nothing)))))
 
     -- what is said behind the starts of all plants
-    pub opened : Ended (SaysFrom m.ended (SaysOpened b)) m f x y status → Ended (SaysIn (SaysRobot acc)) e f x y status
+    pub opened : Ended (SaysFrom m.ended (SaysOpened time b)) m f x y status → Ended (SaysIn (SaysRobot time acc)) e f x y status
     opened r =
-        ended_behind (SaysFrom m.ended (SaysOpened b)) (SaysIn (SaysRobot acc)) e m f x x y h.passed [] status h.passes (utters_nil x) says_robot r
+        ended_behind (SaysFrom m.ended (SaysOpened time b)) (SaysIn (SaysRobot time acc)) e m f x x y h.passed [] status h.passes (utters_nil x) says_robot r

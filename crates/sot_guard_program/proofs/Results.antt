@@ -19,7 +19,7 @@ use Rattle.sot_report.specs.FaultTexts.{fault_text}
 use Rattle.sot_report.specs.RefusalTexts.{refusal_text}
 use Rattle.sot_cli.specs.Texts.{input_limit, long_text}
 use Rattle.sot_cli.specs.declared.answer.Answer.{Answer}
-use Rattle.sot_guard.specs.Resuming.{IsStartUnsafe}
+use Rattle.sot_guard.specs.Beginning.{IsStartUnsafe}
 use Rattle.sot_guard_protocol.specs.Openings.{Starting}
 use Rattle.sot_ports.specs.Faults.{Rose}
 use Rattle.sot_ports.specs.Outside.{Outside}
@@ -44,28 +44,28 @@ three_other : (n : ℕ) → n ≡ 3 → n ≢ 4
 three_other n is = λ four. absurd (omega (arith, is, four))
 
 -- a mission is refused
-pub refused_result : (r : Result Answer AllocError) (p : Tables) (cert : Cert) (f : Ears) (v : Refusal) → (verdict p cert.jitter cert).Refuses v
+pub refused_result : (time : ℕ) (r : Result Answer AllocError) (p : Tables) (cert : Cert) (f : Ears) (v : Refusal) → (verdict p cert.jitter cert).Refuses v
     → IfOk r (λ a. a.status ≡ 1) → IfOk r (λ a. a.text.items ≡ refusal_text p v)
-    → IfOk r (λ a. (a.status ≢ 4) × SaysJudged p cert f a.status [] a.text.items)
-refused_result (Ok a) p cert f v refuses status text = (one_other a.status status, inr (inl (status, (v, refuses, text))))
-refused_result (Err e) p cert f v refuses status text = tt
+    → IfOk r (λ a. (a.status ≢ 4) × SaysJudged time p cert f a.status [] a.text.items)
+refused_result time (Ok a) p cert f v refuses status text = (one_other a.status status, inr (inl (status, (v, refuses, text))))
+refused_result time (Err e) p cert f v refuses status text = tt
 
 -- a front has a fault
-pub faulty_result : (r : Result Answer AllocError) (front : List ℕ) (f : Ears) (fault : Fault) → HasFault Check 0 front fault
+pub faulty_result : (time : ℕ) (r : Result Answer AllocError) (front : List ℕ) (f : Ears) (fault : Fault) → HasFault Check 0 front fault
     → IfOk r (λ a. a.status ≡ 3) → IfOk r (λ a. a.text.items ≡ fault_text fault)
-    → IfOk r (λ a. (a.status ≢ 4) × SaysMission front f a.status [] a.text.items)
-faulty_result (Ok a) front f fault has status text = (three_other a.status status, inr (inr (inl (status, (fault, has, text)))))
-faulty_result (Err e) front f fault has status text = tt
+    → IfOk r (λ a. (a.status ≢ 4) × SaysMission time front f a.status [] a.text.items)
+faulty_result time (Ok a) front f fault has status text = (three_other a.status status, inr (inr (inl (status, (fault, has, text)))))
+faulty_result time (Err e) front f fault has status text = tt
 
 -- a plant is not held safe
-pub unheld_result : (r : Result Answer AllocError) (b : Starting) (ended : Bool) (f : Ears) (m : ℕ)
-    → IsStartUnsafe b.accepted.program b.accepted.cert.jitter b.starts m → IfOk r (λ a. a.status ≡ 1)
+pub unheld_result : (time : ℕ) (r : Result Answer AllocError) (b : Starting) (ended : Bool) (f : Ears) (m : ℕ)
+    → IsStartUnsafe b.accepted.program b.accepted.cert.jitter time b.starts m → IfOk r (λ a. a.status ≡ 1)
     → IfOk r (λ a. IsStartLine b.accepted.program b.starts m a.text.items)
-    → IfOk r (λ a. (a.status ≢ 4) × SaysFrom ended (SaysOpened b) f a.status [] a.text.items)
-unheld_result (Ok a) b ended f m unsafe status line =
+    → IfOk r (λ a. (a.status ≢ 4) × SaysFrom ended (SaysOpened time b) f a.status [] a.text.items)
+unheld_result time (Ok a) b ended f m unsafe status line =
     let first = unsafe.2.unheld in
     (one_other a.status status, (inr (inl (status, refl, (m, unsafe, line first.module_info first.is))), λ _. refl))
-unheld_result (Err e) b ended f m unsafe status line = tt
+unheld_result time (Err e) b ended f m unsafe status line = tt
 
 -- a text has no mark
 pub unmarked_result : (r : Result Answer AllocError) (bytes : List ℕ) (f : Ears) → HasNone bytes → IsAtEnds f → length bytes ≤ input_limit
@@ -94,13 +94,14 @@ long_result (Ok a) bytes f long status text =
 long_result (Err e) bytes f long status text = tt
 
 -- behind a front and its mark
-pub divided : (front mark : List ℕ) (e m f : Ears) (x y : Mouth) (status : ℕ) → IsFront front → IsMark mark m.ended
-    → length (front ++ mark) ≤ input_limit → Passes e m (front ++ mark) → Ended (SaysMission front) m f x y status → Ended SaysAll e f x y status
-divided front mark e m f x y status is_front is_mark short passes r =
-    ended_behind (SaysMission front) SaysAll e m f x x y (front ++ mark) [] status passes (utters_nil x)
+pub divided : (time : ℕ) (front mark : List ℕ) (e m f : Ears) (x y : Mouth) (status : ℕ) → IsFront front → IsMark mark time m.ended
+    → length (front ++ mark) ≤ input_limit → Passes e m (front ++ mark) → Ended (SaysMission time front) m f x y status → Ended SaysAll e f x y status
+divided time front mark e m f x y status is_front is_mark short passes r =
+    ended_behind (SaysMission time front) SaysAll e m f x x y (front ++ mark) [] status passes (utters_nil x)
     (λ said bytes text says. inl (record {
       front = front;
       mark = mark;
+      time = time;
       behind = bytes;
       bytes_are = append_assoc front mark bytes;
       is_front = is_front;

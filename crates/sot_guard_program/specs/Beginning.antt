@@ -31,25 +31,25 @@ abbrev pub SaysFrom : Bool → (Ears → ℕ → List (List ℕ) → List ℕ �
 SaysFrom ended SaysLines b said bytes text =
     SaysLines b said (lent_lines bytes) text × (ended ≡ true → bytes ≡ [])
 
--- what is said behind the starts of all plants
-abbrev pub SaysOpened : Starting → Ears → ℕ → List (List ℕ) → List ℕ → Type 0
-SaysOpened a b said spoken text =
-    ((t : Talking) × Begins a t × StaysSafe t × SaysBegun t (length a.starts) b said spoken text)
-    ⊎ ((said ≡ 1) × (spoken ≡ []) × IsUnheldLine a.accepted a.starts text)
+-- what is said behind the starts of all plants, where the talk begins at this time
+abbrev pub SaysOpened : ℕ → Starting → Ears → ℕ → List (List ℕ) → List ℕ → Type 0
+SaysOpened time a b said spoken text =
+    ((t : Talking) × Begins time a t × StaysSafe t × SaysBegun t (length a.starts) b said spoken text)
+    ⊎ ((said ≡ 1) × (spoken ≡ []) × IsUnheldLine time a.accepted a.starts text)
     ⊎ ((spoken ≡ []) × IsSilent said text)
 
 -- what is said of an accepted mission
-abbrev pub SaysAccepted : Admitted → Ears → ℕ → List ℕ → List ℕ → Type 0
-SaysAccepted acc b said bytes text =
+abbrev pub SaysAccepted : ℕ → Admitted → Ears → ℕ → List ℕ → List ℕ → Type 0
+SaysAccepted time acc b said bytes text =
     ((more : List ℕ) × (text ≡ accepted_text acc.program acc.cert ++ more)
-    × SaysOutline acc b said (lent_lines bytes) more)
+    × SaysOutline time acc b said (lent_lines bytes) more)
     ⊎ IsSilent said text
 
 -- what is said of a program's tables with a certificate
-abbrev pub SaysJudged : Tables → Cert → Ears → ℕ → List ℕ → List ℕ → Type 0
-SaysJudged p cert b said bytes text =
+abbrev pub SaysJudged : ℕ → Tables → Cert → Ears → ℕ → List ℕ → List ℕ → Type 0
+SaysJudged time p cert b said bytes text =
     (IsWellCertified p cert.jitter cert × EveryRunIsSafe p cert.jitter
-    × SaysAccepted (record { program = p; cert = cert }) b said bytes text)
+    × SaysAccepted time (record { program = p; cert = cert }) b said bytes text)
     ⊎ ((said ≡ 1) × ((r : Refusal) × (verdict p cert.jitter cert).Refuses r
     × (text ≡ refusal_text p r)))
     ⊎ IsSilent said text

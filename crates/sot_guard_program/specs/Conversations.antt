@@ -2,10 +2,10 @@
 use Rattle.std.specs.Prelude.{◌≡◌, ℕ, true, List, [], ◌∷◌, ◌++◌}
 use Rattle.sot_trace.specs.Traces.{text_of}
 use Rattle.sot_tube.specs.Admitted.{Admitted}
-use Rattle.sot_world.specs.Configurations.{IsOpening}
 use Rattle.sot_world.specs.Headline.{IsSafeNow}
 use Rattle.sot_guard.specs.declared.turn.SessionEvent.TheVariants.{Instant}
 use Rattle.sot_guard.specs.Resuming.{AreHeldSafe}
+use Rattle.sot_guard.specs.Beginning.{IsOpeningAt}
 use Rattle.sot_guard.specs.Hearing.{NoDrafts, jitter_of}
 use Rattle.sot_guard_protocol.specs.Openings.{Starting, HasAll, TakesStart}
 use Rattle.sot_guard_protocol.specs.Talks.{Talking, tables_of}
@@ -20,11 +20,11 @@ abbrev pub Starts : Starting → List (List ℕ) → Starting → Type 0
 Starts a [] b = b ≡ a
 Starts a (line ∷ lines) b = (c : Starting) × TakesStart a line c × Starts c lines b
 
--- a talk begins about plants that were all observed, each held safe by the first commands until the
--- safe node of its module fires
-pub record Begins (a : Starting) (t : Talking) : Type 0 where
+-- a talk begins at this time about plants that were all observed, each held safe by the first
+-- commands until the safe node of its module fires
+pub record Begins (time : ℕ) (a : Starting) (t : Talking) : Type 0 where
   pub all : HasAll a
-  pub opening : IsOpening a.accepted.program a.starts t.hearing.guarding.at
+  pub opening : IsOpeningAt a.accepted.program time a.starts t.hearing.guarding.at
   pub held : AreHeldSafe a.accepted.program a.accepted.cert.jitter t.hearing.guarding.at
   pub trusted : t.hearing.guarding.trusted ≡ true
   pub accepted : t.hearing.guarding.accepted ≡ a.accepted

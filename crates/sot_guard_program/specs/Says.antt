@@ -26,7 +26,7 @@ use Rattle.sot_cli.specs.Texts.{input_limit, long_text}
 use Rattle.sot_guard_input.specs.Waiting.{longest, has_end}
 use Rattle.sot_guard.specs.declared.misheard.Misheard.{Misheard}
 use Rattle.sot_guard.specs.declared.misheard.Misheard.TheVariants.{NotALine}
-use Rattle.sot_guard.specs.Resuming.{IsStartUnsafe}
+use Rattle.sot_guard.specs.Beginning.{IsStartUnsafe}
 use Rattle.sot_guard_lines.specs.Lines.{end_line}
 use Rattle.sot_guard_lines.specs.Outline.{outline_text}
 use Rattle.sot_guard_protocol.specs.Openings.{Starting, HasAll, IsNoStart}
@@ -102,34 +102,34 @@ SaysBegun t before b said spoken text =
     (more : List ℕ) × (text ≡ begins_text (tables_of t) (time_of t) ++ more)
     × SaysTalk t before b said spoken more
 
--- a talk about an accepted program, which stays safe whatever is said
-pub record Talks (acc : Admitted) (b : Ears) (said : ℕ) (spoken : List (List ℕ)) (text : List ℕ)
-    : Type 0 where
+-- a talk about an accepted program, which begins at this time and stays safe whatever is said
+pub record Talks (time : ℕ) (acc : Admitted) (b : Ears) (said : ℕ) (spoken : List (List ℕ))
+    (text : List ℕ) : Type 0 where
   pub starts : List (List ℕ)
   pub more : List (List ℕ)
   pub opening : Starting
   pub first : Talking
   pub spoken_are : spoken ≡ starts ++ more
   pub started : Starts (unopened acc) starts opening
-  pub begins : Begins opening first
+  pub begins : Begins time opening first
   pub safe : StaysSafe first
   pub says : SaysBegun first (length starts) b said more text
 
 -- the line of the first module whose plant the first commands do not hold safe until the module's
 -- safe node fires, with where that plant was observed
-abbrev pub IsUnheldLine : Admitted → List (List ℤ) → List ℕ → Type 0
-IsUnheldLine acc starts text =
-    (m : ℕ) × (unsafe : IsStartUnsafe acc.program acc.cert.jitter starts m)
+abbrev pub IsUnheldLine : ℕ → Admitted → List (List ℤ) → List ℕ → Type 0
+IsUnheldLine time acc starts text =
+    (m : ℕ) × (unsafe : IsStartUnsafe acc.program acc.cert.jitter time starts m)
     × (text ≡ start_text acc.program m
     (slice_index_or starts unsafe.2.unheld.module_info.plant []))
 
 -- a plant is not held safe
-pub record RefusesStart (acc : Admitted) (said : ℕ) (spoken : List (List ℕ)) (text : List ℕ)
-    : Type 0 where
+pub record RefusesStart (time : ℕ) (acc : Admitted) (said : ℕ) (spoken : List (List ℕ))
+    (text : List ℕ) : Type 0 where
   pub opening : Starting
   pub started : Starts (unopened acc) spoken opening
   pub all : HasAll opening
-  pub unheld : IsUnheldLine acc opening.starts text
+  pub unheld : IsUnheldLine time acc opening.starts text
   pub said_is : said ≡ 1
 
 -- the first line that does not say where the next plant is observed, and why; or the lines end
@@ -167,34 +167,35 @@ IsBefore acc spoken =
 abbrev pub NeverBegins : Admitted → ℕ → List (List ℕ) → List ℕ → Type 0
 NeverBegins acc said spoken text = IsBefore acc spoken × IsSilent said text
 
--- what belongs to what a robot says
-abbrev pub SaysRobot : Admitted → Ears → ℕ → List (List ℕ) → List ℕ → Type 0
-SaysRobot acc b said spoken text =
-    Talks acc b said spoken text ⊎ RefusesStart acc said spoken text
+-- what belongs to what a robot says, where a talk begins at this time
+abbrev pub SaysRobot : ℕ → Admitted → Ears → ℕ → List (List ℕ) → List ℕ → Type 0
+SaysRobot time acc b said spoken text =
+    Talks time acc b said spoken text ⊎ RefusesStart time acc said spoken text
     ⊎ MistakesStart acc b said spoken text ⊎ StartsSoFar acc said spoken text
     ⊎ NeverBegins acc said spoken text
 
 -- what is said behind the answer to an accepted mission: what a robot has to know of it, and then
 -- what belongs to what a robot says
-abbrev pub SaysOutline : Admitted → Ears → ℕ → List (List ℕ) → List ℕ → Type 0
-SaysOutline acc b said spoken text =
+abbrev pub SaysOutline : ℕ → Admitted → Ears → ℕ → List (List ℕ) → List ℕ → Type 0
+SaysOutline time acc b said spoken text =
     (more : List ℕ) × (text ≡ outline_text acc.program ++ more)
-    × SaysRobot acc b said spoken more
+    × SaysRobot time acc b said spoken more
 
 -- a mission is accepted, every run of it is safe, that is said first, and then what a robot has to
 -- know, and what belongs to what a robot says
-pub record Accepts (m : Mission) (b : Ears) (said : ℕ) (bytes text : List ℕ) : Type 0 where
+pub record Accepts (time : ℕ) (m : Mission) (b : Ears) (said : ℕ) (bytes text : List ℕ)
+    : Type 0 where
   pub accepted : IsWellCertified m.tables m.cert.jitter m.cert
   pub safe : EveryRunIsSafe m.tables m.cert.jitter
   pub more : List ℕ
   pub text_is : text ≡ accepted_text m.tables m.cert ++ more
-  pub says : SaysOutline (record { program = m.tables; cert = m.cert }) b said (lent_lines bytes)
-      more
+  pub says : SaysOutline time (record { program = m.tables; cert = m.cert }) b said
+      (lent_lines bytes) more
 
--- what is said of a front, and of the bytes behind its mark
-abbrev pub SaysMission : List ℕ → Ears → ℕ → List ℕ → List ℕ → Type 0
-SaysMission front b said bytes text =
-    ((m : Mission) × SpellsMission Check 0 front m × Accepts m b said bytes text)
+-- what is said of a front, and of the bytes behind its mark, which says this time
+abbrev pub SaysMission : ℕ → List ℕ → Ears → ℕ → List ℕ → List ℕ → Type 0
+SaysMission time front b said bytes text =
+    ((m : Mission) × SpellsMission Check 0 front m × Accepts time m b said bytes text)
     ⊎ ((m : Mission) × SpellsMission Check 0 front m × (said ≡ 1) × ((r : Refusal)
     × (verdict m.tables m.cert.jitter m.cert).Refuses r × (text ≡ refusal_text m.tables r)))
     ⊎ ((said ≡ 3) × ((f : Fault) × HasFault Check 0 front f × (text ≡ fault_text f)))
@@ -208,16 +209,18 @@ HasSectionFault text fault =
     ⊎ ((parts : Parts) × (split_of text Check ≡ Ok parts)
     × (fault ≡ record { line = suc (length (lines text)); kind = Missing }))
 
--- a front and its mark, and what is said of them and of what stands behind
+-- a front and its mark, the time that the mark says, and what is said of them and of what stands
+-- behind
 pub record Divides (b : Ears) (said : ℕ) (bytes text : List ℕ) : Type 0 where
   pub front : List ℕ
   pub mark : List ℕ
+  pub time : ℕ
   pub behind : List ℕ
   pub bytes_are : bytes ≡ front ++ (mark ++ behind)
   pub is_front : IsFront front
-  pub is_mark : (whole : Bool) × IsMark mark whole
+  pub is_mark : (whole : Bool) × IsMark mark time whole
   pub short : length (front ++ mark) ≤ input_limit
-  pub says : SaysMission front b said behind text
+  pub says : SaysMission time front b said behind text
 
 -- a text has no mark
 pub record LacksMark (b : Ears) (said : ℕ) (bytes text : List ℕ) : Type 0 where

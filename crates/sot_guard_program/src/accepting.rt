@@ -5,6 +5,7 @@ ghost use Rattle.sot_lang.specs.CertRules.{FitsTables};
 ghost use Rattle.sot_text.specs.LineEnds.{lines};
 ghost use Rattle.sot_trace.specs.Words.{AreWords};
 ghost use Rattle.sot_tube.specs.Certified.{IsWellCertified};
+ghost use Rattle.sot_guard.specs.Guarding.{last_time};
 ghost use Rattle.sot_cli.specs.Texts.{input_limit};
 ghost use Rattle.sot_guard_input.specs.Reading.{IsSettled};
 ghost use Rattle.sot_guard_program.specs.Moments.{ears, mouth, Ended};
@@ -32,6 +33,7 @@ fn greet<S: Source, K: Sink>(
     alloc: Global,
     accepted: &Accepted<'_>,
     cert: &Cert,
+    time: u64,
     ear: &mut Ear,
     source: &mut S,
     sink: &mut K,
@@ -41,8 +43,9 @@ fn greet<S: Source, K: Sink>(
     requires words { AreWords accepted.now.program }
     requires certified { IsWellCertified accepted.now.program accepted.now.cert.jitter
         accepted.now.cert }
+    requires horizon { time ≤ last_time }
     requires settled { IsSettled (S.left source.old) ear.old.buffer ear.old.ended }
-    ensures { Ended (SaysAccepted accepted.now)
+    ensures { Ended (SaysAccepted time accepted.now)
         (ears (S.left source.old) (S.faults source.old) ear.old)
         (ears (S.left source.new) (S.faults source.new) ear.new)
         (mouth (K.held sink.old) (K.faults sink.old))
@@ -57,7 +60,7 @@ fn greet<S: Source, K: Sink>(
         Err(_) => return Status(6),
     };
     match write_whole(sink, text.as_bytes()) {
-        Ok(()) => describe(alloc, accepted, waiting, ear, source, sink),
+        Ok(()) => describe(alloc, accepted, waiting, time, ear, source, sink),
         Err(_) => Status(5),
     }
 }
@@ -68,38 +71,43 @@ fn judge<R: Threads + Sync, S: Source, K: Sink>(
     alloc: Global,
     program: &Typed,
     cert: &Cert,
+    time: u64,
     ear: &mut Ear,
     source: &mut S,
     sink: &mut K,
 ) -> Status
     requires fits { FitsTables program.now cert.now }
     requires words { AreWords program.now }
+    requires horizon { time ≤ last_time }
     requires settled { IsSettled (S.left source.old) ear.old.buffer ear.old.ended }
-    ensures { Ended (SaysJudged program.now cert.now)
+    ensures { Ended (SaysJudged time program.now cert.now)
         (ears (S.left source.old) (S.faults source.old) ear.old)
         (ears (S.left source.new) (S.faults source.new) ear.new)
         (mouth (K.held sink.old) (K.faults sink.old))
         (mouth (K.held sink.new) (K.faults sink.new)) result.0 }
 {
     match check_all(rt, program, cert) {
-        Ok(accepted) => greet(alloc, &accepted, cert, ear, source, sink),
+        Ok(accepted) => greet(alloc, &accepted, cert, time, ear, source, sink),
         Err(refusal) => tell(refused(alloc, program, &refusal), sink),
     }
 }
 
-/// Checks the mission that a front spells, and goes on where it is accepted.
+/// Checks the mission that a front spells, and goes on where it is accepted, with a talk that begins
+/// at this time.
 pub(crate) fn accept<R: Threads + Sync, S: Source, K: Sink>(
     rt: &R,
     alloc: Global,
     front: &[u8],
+    time: u64,
     ear: &mut Ear,
     source: &mut S,
     sink: &mut K,
     process: Process,
 ) -> Status
     requires short { length front.now ≤ input_limit }
+    requires horizon { time ≤ last_time }
     requires settled { IsSettled (S.left source.old) ear.old.buffer ear.old.ended }
-    ensures { Ended (SaysMission front.now)
+    ensures { Ended (SaysMission time front.now)
         (ears (S.left source.old) (S.faults source.old) ear.old)
         (ears (S.left source.new) (S.faults source.new) ear.new)
         (mouth (K.held sink.old) (K.faults sink.old))
@@ -107,7 +115,16 @@ pub(crate) fn accept<R: Threads + Sync, S: Source, K: Sink>(
 {
     match load(alloc, front, Need::Check, 0, process) {
         Ok(loaded) => {
-            let status = judge(rt, alloc, &loaded.program, &loaded.cert, ear, source, sink);
+            let status = judge(
+                rt,
+                alloc,
+                &loaded.program,
+                &loaded.cert,
+                time,
+                ear,
+                source,
+                sink,
+            );
             let_go(loaded, process);
             status
         }

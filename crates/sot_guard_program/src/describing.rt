@@ -1,8 +1,9 @@
 //! What a robot has to know of an accepted mission.
 
-ghost use Rattle.std.specs.Prelude.{OnOk, OnErr};
+ghost use Rattle.std.specs.Prelude.{◌≤◌, OnOk, OnErr};
 ghost use Rattle.sot_tube.specs.Certified.{IsWellCertified};
 ghost use Rattle.sot_trace.specs.Words.{AreWords};
+ghost use Rattle.sot_guard.specs.Guarding.{last_time};
 ghost use Rattle.sot_guard_lines.specs.Outline.{outline_text};
 ghost use Rattle.sot_guard_input.specs.Reading.{IsSettled};
 ghost use Rattle.sot_guard_program.specs.Moments.{ears, mouth, Utters, Ended};
@@ -43,6 +44,7 @@ pub(crate) fn describe<S: Source, K: Sink>(
     alloc: Global,
     accepted: &Accepted<'_>,
     mut waiting: Vec<u8>,
+    time: u64,
     ear: &mut Ear,
     source: &mut S,
     sink: &mut K,
@@ -50,15 +52,16 @@ pub(crate) fn describe<S: Source, K: Sink>(
     requires words { AreWords accepted.now.program }
     requires certified { IsWellCertified accepted.now.program accepted.now.cert.jitter
         accepted.now.cert }
+    requires horizon { time ≤ last_time }
     requires settled { IsSettled (S.left source.old) ear.old.buffer ear.old.ended }
-    ensures { Ended (SaysIn (SaysOutline accepted.now))
+    ensures { Ended (SaysIn (SaysOutline time accepted.now))
         (ears (S.left source.old) (S.faults source.old) ear.old)
         (ears (S.left source.new) (S.faults source.new) ear.new)
         (mouth (K.held sink.old) (K.faults sink.old))
         (mouth (K.held sink.new) (K.faults sink.new)) result.0 }
 {
     match tell_outline(accepted.typed(), &mut waiting, sink) {
-        Ok(()) => converse(alloc, accepted, waiting, ear, source, sink),
+        Ok(()) => converse(alloc, accepted, waiting, time, ear, source, sink),
         Err(_) => Status(5),
     }
 }

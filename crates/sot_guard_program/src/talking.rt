@@ -1,9 +1,10 @@
 //! A robot's talk about an accepted mission.
 
-ghost use Rattle.std.specs.Prelude.{◌≡◌, ◌<◌, ◌-◌, ◌^◌};
+ghost use Rattle.std.specs.Prelude.{◌≡◌, ◌<◌, ◌≤◌, ◌-◌, ◌^◌};
 ghost use Rattle.sot_lang.specs.TableRules.{MeetsTableRules};
 ghost use Rattle.sot_tube.specs.Certified.{IsWellCertified};
 ghost use Rattle.sot_trace.specs.Words.{AreWords};
+ghost use Rattle.sot_guard.specs.Guarding.{last_time};
 ghost use Rattle.sot_guard_protocol.specs.Openings.{HasAll};
 ghost use Rattle.sot_guard_input.specs.Reading.{IsSettled};
 ghost use Rattle.sot_guard_program.specs.Moments.{ears, mouth, Ended};
@@ -71,11 +72,12 @@ fn begin_talk<S: Source, K: Sink>(
     }
 }
 
-// Begins a talk about plants that were all observed.
+// Begins a talk about plants that were all observed at this time.
 fn begin<S: Source, K: Sink>(
     alloc: Global,
     p: &Typed,
     opening: TalkOpening<'_>,
+    time: u64,
     waiting: Vec<u8>,
     ear: &mut Ear,
     source: &mut S,
@@ -83,10 +85,11 @@ fn begin<S: Source, K: Sink>(
 ) -> Status
     requires program { opening.accepted.program ≡ p.now }
     requires all { HasAll opening }
+    requires horizon { time ≤ last_time }
     requires rules { MeetsTableRules p.now }
     requires certified { IsWellCertified p.now opening.accepted.cert.jitter opening.accepted.cert }
     requires settled { IsSettled (S.left source.old) ear.old.buffer ear.old.ended }
-    ensures { Ended (SaysFrom ear.old.ended (SaysOpened opening.entry))
+    ensures { Ended (SaysFrom ear.old.ended (SaysOpened time opening.entry))
         (ears (S.left source.old) (S.faults source.old) ear.old)
         (ears (S.left source.new) (S.faults source.new) ear.new)
         (mouth (K.held sink.old) (K.faults sink.old))
@@ -96,28 +99,30 @@ fn begin<S: Source, K: Sink>(
         Ok(starts) => starts,
         Err(_) => return Status(6),
     };
-    match Talk::begin(alloc, opening) {
+    match Talk::begin(alloc, opening, time) {
         Ok(talk) => begin_talk(Speaker { talk, waiting }, starts.len(), ear, source, sink),
         Err(BeginFail::NotHeldSafe { module }) => tell(unheld(alloc, p, &starts, module), sink),
         Err(BeginFail::Memory) => Status(6),
     }
 }
 
-/// Hears where each plant is observed first, and then answers line by line what is said, through
+/// Hears where each plant is observed first, at this time, and then answers line by line what is said, through
 /// bytes that have all their room.
 pub(crate) fn converse<S: Source, K: Sink>(
     alloc: Global,
     accepted: &Accepted<'_>,
     mut waiting: Vec<u8>,
+    time: u64,
     ear: &mut Ear,
     source: &mut S,
     sink: &mut K,
 ) -> Status
     requires words { AreWords accepted.now.program }
+    requires horizon { time ≤ last_time }
     requires certified { IsWellCertified accepted.now.program accepted.now.cert.jitter
         accepted.now.cert }
     requires settled { IsSettled (S.left source.old) ear.old.buffer ear.old.ended }
-    ensures { Ended (SaysIn (SaysRobot accepted.now))
+    ensures { Ended (SaysIn (SaysRobot time accepted.now))
         (ears (S.left source.old) (S.faults source.old) ear.old)
         (ears (S.left source.new) (S.faults source.new) ear.new)
         (mouth (K.held sink.old) (K.faults sink.old))
@@ -129,7 +134,7 @@ pub(crate) fn converse<S: Source, K: Sink>(
         Err(_) => return Status(6),
     };
     match hear_starts(&mut opening, p.plants.len(), ear, source) {
-        Ok(()) => begin(alloc, p, opening, waiting, ear, source, sink),
+        Ok(()) => begin(alloc, p, opening, time, waiting, ear, source, sink),
         Err(halt) => stopped(&mut waiting, halt, sink),
     }
 }

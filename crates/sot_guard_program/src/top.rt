@@ -32,8 +32,8 @@ fn attend<R: Threads + Sync, S: Source, K: Sink>(
         result.0 }
 {
     match read_front(alloc, &mut ear, source, INPUT_LIMIT) {
-        Ok(MissionFront::Observed(front)) => {
-            accept(rt, alloc, &front, &mut ear, source, sink, process)
+        Ok(MissionFront::Observed { front, time }) => {
+            accept(rt, alloc, &front, time, &mut ear, source, sink, process)
         }
         Ok(MissionFront::Unobserved(text)) => tell(unobserved(alloc, &text), sink),
         Err(FrontFail::Fault) => Status(4),

@@ -10,8 +10,9 @@ use Rattle.sot_lang.specs.declared.tables.NodeInfo.{NodeInfo}
 use Rattle.sot_lang.specs.Tables.{Tables}
 use Rattle.sot_lang.specs.TableRules.{MeetsTableRules, IsCoded}
 use Rattle.sot_lang.specs.declared.act.Act.{Act}
-use Rattle.sot_world.specs.Configurations.{Configuration, IsOpening, is_left}
+use Rattle.sot_world.specs.Configurations.{Configuration, is_left}
 use Rattle.sot_tube.specs.Admitted.{Admitted}
+use Rattle.sot_guard.specs.Beginning.{IsOpeningAt}
 use Rattle.sot_guard.specs.declared.outside.Outside.{Outside}
 use Rattle.sot_guard.specs.Guarding.{Guarding}
 use Rattle.sot_guard.specs.Changes.{IsSafeNode, AsksSafeNodes}
@@ -82,10 +83,10 @@ ready_heard h k u points outside rules goes takes n node at none =
     )
 
 -- at the opening what is due is left
-pub begins_heard : (p : Tables) (starts : List (List ℤ)) (C : Configuration) → IsOpening p starts C → (n : ℕ) (node : NodeInfo) → At p.nodes n node
-    → (is_left C n ≡ true) ↔ (is_due node C.time ≡ true)
-begins_heard p starts C opening n node at =
+pub begins_heard : (p : Tables) (t : ℕ) (starts : List (List ℤ)) (C : Configuration) → IsOpeningAt p t starts C → (n : ℕ) (node : NodeInfo)
+    → At p.nodes n node → (is_left C n ≡ true) ↔ (is_due node C.time ≡ true)
+begins_heard p t starts C opening n node at =
     let left = opening.left n node at in (
-      λ l. is_due_where node _ (subst (IsDue node.period node.offset) (sym opening.time) (left.0 l)),
-      λ is. left.1 (subst (IsDue node.period node.offset) opening.time (due_is node _ is)),
+      λ l. is_due_where node _ (subst (IsDue node.period node.offset) (sym opening.time_is) (left.0 l)),
+      λ is. left.1 (subst (IsDue node.period node.offset) opening.time_is (due_is node _ is)),
     )

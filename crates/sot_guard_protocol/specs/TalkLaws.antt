@@ -7,10 +7,11 @@ use Rattle.sot_lang.specs.Tables.{Tables}
 use Rattle.sot_lang.specs.TableRules.{MeetsTableRules}
 use Rattle.sot_tube.specs.Certified.{IsWellCertified}
 use Rattle.sot_world.specs.Headline.{IsSafeNow}
-use Rattle.sot_world.specs.Configurations.{Configuration, IsOpening, is_left}
+use Rattle.sot_world.specs.Configurations.{Configuration, is_left}
 use Rattle.sot_guard.specs.declared.outside.Outside.{Outside}
 use Rattle.sot_guard.specs.Hearing.{Hearing, program_of, jitter_of, Resumes}
 use Rattle.sot_guard.specs.Hearing.{GoesThrough, TakesTick}
+use Rattle.sot_guard.specs.Beginning.{IsOpeningAt}
 use Rattle.sot_guard.specs.Conversations.{IsObserved, KeepsTubesInTrust}
 use Rattle.sot_guard_lines.specs.Lines.{resumed_line, is_due}
 use Rattle.sot_guard_protocol.specs.declared.heard.Heard.{Heard}
@@ -84,8 +85,8 @@ TrustedTalksAreSafe =
 -- that are external
 abbrev pub BeginsNamesWhoIsHeard : Type 0
 BeginsNamesWhoIsHeard =
-    (p : Tables) (starts : List (List ℤ)) (C : Configuration) → IsOpening p starts C
-    → (n : ℕ) (node : NodeInfo) → At p.nodes n node
+    (p : Tables) (time : ℕ) (starts : List (List ℤ)) (C : Configuration)
+    → IsOpeningAt p time starts C → (n : ℕ) (node : NodeInfo) → At p.nodes n node
     → (is_left C n ≡ true) ↔ (is_due node C.time ≡ true)
 
 -- behind an instant that was gone through and a tick that was taken, whether a plant is outside or

@@ -1,10 +1,11 @@
 //! A talk with a robot.
 
-ghost use Rattle.std.specs.Prelude.{◌≡◌, ◌∷◌, [], ◌↔◌, ℕ, List, true, IsTrue, IfOk, IfErr, OnErr};
+ghost use Rattle.std.specs.Prelude.{◌≡◌, ◌≤◌, ◌∷◌, [], ◌↔◌, ℕ, List, true, IsTrue, IfOk, IfErr, OnErr};
 ghost use Rattle.std.specs.Prelude.{IsErrOf};
 ghost use Rattle.sot_trace.specs.Traces.{text_of};
-ghost use Rattle.sot_world.specs.Configurations.{IsOpening};
-ghost use Rattle.sot_guard.specs.Resuming.{AreHeldSafe, AtOpening, IsStartUnsafe, IfNotHeld};
+ghost use Rattle.sot_guard.specs.Guarding.{last_time};
+ghost use Rattle.sot_guard.specs.Resuming.{AreHeldSafe};
+ghost use Rattle.sot_guard.specs.Beginning.{IsOpeningAt, AtOpening, IsStartUnsafe, IfNotHeld};
 ghost use Rattle.sot_guard.specs.Hearing.{NoDrafts};
 ghost use Rattle.sot_guard.specs.declared.turn.SessionEvent.TheVariants.{Instant};
 ghost use Rattle.sot_guard_lines.specs.Lines.{end_line};
@@ -48,13 +49,14 @@ impl<'a> Model for Talk<'a> {
 }
 
 impl<'a> Talk<'a> {
-    /// The talk about plants that were all observed. It takes all memory that it will ever need.
-    /// `NotHeldSafe` names the first module whose plant the first commands do not hold safe until
+    /// The talk about plants that were all observed at this time, in ticks. It takes all memory that
+    /// it will ever need. `NotHeldSafe` names the first module whose plant the first commands do not hold safe until
     /// the module's safe node fires; `Memory` comes only where each plant is held safe.
-    pub fn begin(alloc: Global, opening: TalkOpening<'a>) -> Result<Talk<'a>, BeginFail>
-        requires { HasAll opening }
-        ensures opening { IfOk result (λ t.
-            IsOpening opening.entry.accepted.program opening.entry.starts t.hearing.guarding.at) }
+    pub fn begin(alloc: Global, opening: TalkOpening<'a>, time: u64) -> Result<Talk<'a>, BeginFail>
+        requires all { HasAll opening }
+        requires horizon { time ≤ last_time }
+        ensures opening { IfOk result (λ t. IsOpeningAt opening.entry.accepted.program time
+            opening.entry.starts t.hearing.guarding.at) }
         ensures held { IfOk result (λ t. AreHeldSafe opening.entry.accepted.program
             opening.entry.accepted.cert.jitter t.hearing.guarding.at) }
         ensures trusted { IfOk result (λ t. t.hearing.guarding.trusted ≡ true) }
@@ -64,16 +66,16 @@ impl<'a> Talk<'a> {
         ensures no_drafts { IfOk result (λ t. NoDrafts t.hearing) }
         ensures no_events { IfOk result (λ t. t.events ≡ 0) }
         ensures not_held { IfErr result (λ f. IfNotHeld f (λ m.
-            IsStartUnsafe opening.entry.accepted.program opening.entry.accepted.cert.jitter
+            IsStartUnsafe opening.entry.accepted.program opening.entry.accepted.cert.jitter time
             opening.entry.starts m)) }
         ensures memory { IsErrOf result BeginFail.Memory
-            → AtOpening opening.entry.accepted.program opening.entry.starts
+            → AtOpening opening.entry.accepted.program time opening.entry.starts
             (λ C. AreHeldSafe opening.entry.accepted.program opening.entry.accepted.cert.jitter
             C) }
     {
         let acc = opening.accepted();
         let lists = opening.into_lists();
-        let session = match Session::begin(alloc, acc, &lists.starts) {
+        let session = match Session::begin(alloc, acc, time, &lists.starts) {
             Ok(session) => session,
             Err(fail) => return Err(fail),
         };

@@ -4,10 +4,10 @@ use Rattle.sot_lists.specs.Places.{At}
 use Rattle.sot_lang.specs.Tables.{Tables}
 use Rattle.sot_lang.specs.TableRules.{MeetsTableRules}
 use Rattle.sot_tube.specs.Admitted.{Admitted}
-use Rattle.sot_world.specs.Configurations.{IsOpening}
 use Rattle.sot_trace.specs.Words.{AreWords}
 use Rattle.sot_guard.specs.declared.misheard.Misheard.{Misheard}
 use Rattle.sot_guard.specs.Guarding.{IsGuarding}
+use Rattle.sot_guard.specs.Beginning.{IsOpeningAt}
 use Rattle.sot_guard.specs.declared.turn.SessionEvent.TheVariants.{Instant}
 use Rattle.sot_guard.specs.Hearing.{Hearing, IsHearing, NoDrafts}
 use Rattle.sot_guard_lines.specs.Sayings.{Saying, StartSaid, InputSaid, DraftSaid, GoSaid, TickSaid}
@@ -33,9 +33,11 @@ pub record AreOneSession (h k : Hearing) : Type 0 where
 abbrev pub AreOneTalk : Talking → Talking → Type 0
 AreOneTalk t u = AreOneSession t.hearing u.hearing × (t.events ≡ u.events)
 
--- a talk as it begins about an accepted program, with its plants observed at these points
-pub record IsBegun (accepted : Admitted) (start : List (List ℤ)) (t : Talking) : Type 0 where
-  pub opening : IsOpening accepted.program start t.hearing.guarding.at
+-- a talk as it begins about an accepted program, with its plants observed at this time and at these
+-- points
+pub record IsBegun (accepted : Admitted) (time : ℕ) (start : List (List ℤ)) (t : Talking)
+    : Type 0 where
+  pub opening : IsOpeningAt accepted.program time start t.hearing.guarding.at
   pub trusted : t.hearing.guarding.trusted ≡ true
   pub accepted_is : t.hearing.guarding.accepted ≡ accepted
   pub turn : t.hearing.turn ≡ Instant
@@ -46,8 +48,9 @@ pub record IsBegun (accepted : Admitted) (start : List (List ℤ)) (t : Talking)
 -- it is one
 abbrev pub TalksBeginOnce : Type 0
 TalksBeginOnce =
-    (accepted : Admitted) (start : List (List ℤ)) (t u : Talking) → IsKept t → IsKept u
-    → IsBegun accepted start t → IsBegun accepted start u → AreOneTalk t u
+    (accepted : Admitted) (time : ℕ) (start : List (List ℤ)) (t u : Talking) → IsKept t
+    → IsKept u → IsBegun accepted time start t → IsBegun accepted time start u
+    → AreOneTalk t u
 
 -- no number of what is said has more than 64 bits
 abbrev pub HasSmallNumbers : Saying → Type 0

@@ -13,7 +13,7 @@ pub fn starts_are_heard_once()
     ensures { StartsAreHeardOnce }
 {}
 
-/// Talks that begin about one program, with their plants at the same points, are one.
+/// Talks that begin about one program, at one time with their plants at the same points, are one.
 pub fn talks_begin_once()
     ensures { TalksBeginOnce }
 {}

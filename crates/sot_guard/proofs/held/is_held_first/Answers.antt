@@ -73,4 +73,4 @@ returns c =
     ∙ ap (λ l. point_box (map (λ k. slice_index_or (map (λ i. i.init) c.deref-2.result.now) k (pos 0)) l)) c.deref.ensures.value ∙ ap (λ xs. point_box (map (λ k. slice_index_or (map (λ i. i.init) xs) k (pos 0)) c.index-2.result.now.inputs.items))
     (c.deref-2.ensures.value ∙ ap (λ t. t.scalars) c.p.view_is) in
     told_at c.args.p.now rules c.args.jitter c.args.points.now c.requires.may c.args.«module» c.index.result.now at _ at_p (map (λ i. i.init) c.args.p.now.scalars)
-    c.as_slice.result.now held 0 c.index-points-plant.result c.is_held.result point c.is_held.ensures
+    c.as_slice.result.now held c.args.time c.index-points-plant.result c.is_held.result point c.is_held.ensures

@@ -4,7 +4,9 @@ use Rattle.std.proofs.Math.ListN.{drop_of_length-le}
 use Rattle.sot_ports.specs.Faults.{Rose}
 use Rattle.sot_guard_input.specs.Waiting.{has_end}
 use Rattle.sot_guard_input.specs.Reading.{Reads, AddsPiece, ends_line}
-use Rattle.sot_guard_input.specs.Fronts.{is_observed, HasNone}
+use Rattle.std.specs.Option.{is_some}
+use Rattle.sot_guard_input.specs.Marks.{marked_time}
+use Rattle.sot_guard_input.specs.Fronts.{HasNone}
 use Rattle.sot_guard_input.proofs.Pieces.{reads_trans, fails_so, none_so_far, comes_line, comes_last, ends_so_far}
 use Rattle.sot_guard_input.proofs.front.read_front.Goals as goal
 
@@ -36,8 +38,8 @@ returns-in-Last-clause-front g c =
     adds.added (omega (arith, so_far.within, c.pieces.text.ok.0)) so_far.whole so_far.none so_far.part (omega (arith, c.in-Ok.ensures.short, after.ok.0))
     c.last_front.result adds.is c.last_front.ensures
 
-pub returns-then-is_observed-clause-front : goal.returns-then-is_observed-clause-front
-returns-then-is_observed-clause-front g c =
+pub returns-in-Some-clause-front : goal.returns-in-Some-clause-front
+returns-in-Some-clause-front g c =
     let left = g.S.Source.left in
     let so_far = c.pieces.invariant in
     let text = c.pieces.text.items in
@@ -49,7 +51,7 @@ returns-then-is_observed-clause-front g c =
     let line = take_rest c.deref.result.now c.pieces.start ∙ ap (drop c.pieces.start) c.deref.ensures.value in
     comes_line (left c.args.source.now) (left c.next_piece.new.source) c.next_piece.new.ear c.args.limit c.pieces.start text adds.piece after.items reads
     adds.added (omega (arith, so_far.within, c.pieces.text.ok.0)) so_far.whole so_far.none so_far.part (omega (arith, c.in-Ok.ensures.short, after.ok.0))
-    c.cut.result.items adds.is c.cut.ensures (sym (c.is_observed.ensures ∙ ap is_observed line) ∙ c.if-is_observed.true)
+    c.cut-front.result.items c.in-Some.time adds.is c.cut-front.ensures (sym (c.in-Some.ensures ∙ ap marked_time line))
 
 pub pieces-preserved : goal.pieces-preserved
 pieces-preserved g c =
@@ -65,7 +67,7 @@ pieces-preserved g c =
     let within : start ≤ length text = omega (arith, so_far.within, c.pieces.text.ok.0) in
     let short : length after.items ≤ c.args.limit = omega (arith, c.in-Ok.ensures.short, after.ok.0) in
     let line = take_rest c.deref.result.now start ∙ ap (drop start) c.deref.ensures.value in
-    let other = sym (c.is_observed.ensures ∙ ap is_observed line) ∙ c.if-is_observed.false in
+    let other = ap is_some (sym (c.in_default.ensures ∙ ap marked_time line)) in
     let end : c.len-start.result ≡ length after.items = c.len-start.ensures ∙ after.ok.0 in
     let all : take c.len-start.result after.items ≡ after.items = take_all c.len-start.result after.items (omega (arith, end)) in
     let none = none_so_far text adds.piece after.items start within adds.added so_far.whole so_far.none so_far.part (inr adds.is.1) other in

@@ -23,7 +23,7 @@ returns-in-Ok g c =
     let x = mouth (g.K.Sink.held c.args.sink.now) (g.K.Sink.faults c.args.sink.now) in
     let y = mouth (g.K.Sink.held c.judge-status.new.sink) (g.K.Sink.faults c.judge-status.new.sink) in
     let ok = c.in-Ok.ensures.ok in
-    accepted e f x y c.judge-status.result.0 c.args.front.now (mission_of ok.program c.in-Ok.loaded) ok.mission c.judge-status.ensures
+    accepted e f x y c.judge-status.result.0 c.args.time c.args.front.now (mission_of ok.program c.in-Ok.loaded) ok.mission c.judge-status.ensures
 
 pub returns-in-Err-Fault : goal.returns-in-Err-Fault
 returns-in-Err-Fault g c =
@@ -33,8 +33,8 @@ returns-in-Err-Fault g c =
     let y = mouth (g.K.Sink.held c.tell.new.sink) (g.K.Sink.faults c.tell.new.sink) in
     let has = subst (λ e. IfFault e (HasFault needs.Check 0 front)) c.in-Err-Fault.field-0-is c.in-Err-Fault.ensures.fault in
     let text = subst (λ f. IfOk c.faulty.result (λ a. a.text.items ≡ fault_text f)) c.in-Err-Fault.fault-is c.faulty.ensures.text in
-    answered e e x y c.tell.result.0 (SaysMission front) [] c.faulty.result (passes_nil e)
-    (faulty_result c.faulty.result front e c.in-Err-Fault.fault has c.faulty.ensures.status text) (inr (inr (inr (refl, refl)))) c.tell.ensures
+    answered e e x y c.tell.result.0 (SaysMission c.args.time front) [] c.faulty.result (passes_nil e)
+    (faulty_result c.args.time c.faulty.result front e c.in-Err-Fault.fault has c.faulty.ensures.status text) (inr (inr (inr (refl, refl)))) c.tell.ensures
 
 pub returns-in-Err-Memory : goal.returns-in-Err-Memory
-returns-in-Err-Memory g c = silent (SaysMission c.args.front.now) _ _ (inr (inr (inr (refl, refl))))
+returns-in-Err-Memory g c = silent (SaysMission c.args.time c.args.front.now) _ _ (inr (inr (inr (refl, refl))))

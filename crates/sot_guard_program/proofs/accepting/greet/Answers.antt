@@ -7,10 +7,10 @@ use Rattle.sot_guard_program.proofs.Results.{silent}
 use Rattle.sot_guard_program.proofs.accepting.greet.Goals as goal
 
 pub returns-in-Err : goal.returns-in-Err
-returns-in-Err g c = silent (SaysAccepted c.args.accepted.now) _ _ (inr (refl, refl))
+returns-in-Err g c = silent (SaysAccepted c.args.time c.args.accepted.now) _ _ (inr (refl, refl))
 
 pub returns-in-Err-room : goal.returns-in-Err-room
-returns-in-Err-room g c = silent (SaysAccepted c.args.accepted.now) _ _ (inr (refl, refl))
+returns-in-Err-room g c = silent (SaysAccepted c.args.time c.args.accepted.now) _ _ (inr (refl, refl))
 
 pub returns-in-Ok-write_whole : goal.returns-in-Ok-write_whole
 returns-in-Ok-write_whole g c =
@@ -23,7 +23,7 @@ returns-in-Ok-write_whole g c =
     let is : c.as_bytes.result.now ≡ accepted_text acc.program acc.cert
     = cc (c.in-Ok.ensures, c.as_bytes.ensures.value, c.typed.ensures.program, c.requires.cert) in
     let wrote = c.in-Ok-write_whole.ensures in
-    greeted e f x y c.describe.result.0 acc z c.as_bytes.result.now (record { taken = wrote.ok; well = wrote.well }) is c.describe.ensures
+    greeted e f x y c.describe.result.0 c.args.time acc z c.as_bytes.result.now (record { taken = wrote.ok; well = wrote.well }) is c.describe.ensures
 
 pub returns : goal.returns
 returns g c =
@@ -34,4 +34,4 @@ returns g c =
     let is : c.as_bytes.result.now ≡ accepted_text acc.program acc.cert
     = cc (c.in-Ok.ensures, c.as_bytes.ensures.value, c.typed.ensures.program, c.requires.cert) in
     let part = c.in-Err-write_whole.ensures in
-    greeted_in_part acc e x y c.as_bytes.result.now c.in-Err-write_whole.field-0.sent is part.fault part.sent part.partial
+    greeted_in_part c.args.time acc e x y c.as_bytes.result.now c.in-Err-write_whole.field-0.sent is part.fault part.sent part.partial

@@ -16,8 +16,8 @@ returns-in-Ok g c =
     let f = ears (g.S.Source.left c.greet.new.source) (g.S.Source.faults c.greet.new.source) c.greet.new.ear in
     let x = mouth (g.K.Sink.held c.args.sink.now) (g.K.Sink.faults c.args.sink.now) in
     let y = mouth (g.K.Sink.held c.greet.new.sink) (g.K.Sink.faults c.greet.new.sink) in
-    judged e f x y c.greet.result.0 p cert c.in-Ok.ensures.answer.1 c.in-Ok.ensures.safe
-    (subst (λ (a : Admitted). Ended (SaysAccepted a) e f x y c.greet.result.0) c.in-Ok.ensures.answer.0 c.greet.ensures)
+    judged e f x y c.greet.result.0 c.args.time p cert c.in-Ok.ensures.answer.1 c.in-Ok.ensures.safe
+    (subst (λ (a : Admitted). Ended (SaysAccepted c.args.time a) e f x y c.greet.result.0) c.in-Ok.ensures.answer.0 c.greet.ensures)
 
 pub returns-in-Err : goal.returns-in-Err
 returns-in-Err g c =
@@ -27,6 +27,6 @@ returns-in-Err g c =
     let x = mouth (g.K.Sink.held c.args.sink.now) (g.K.Sink.faults c.args.sink.now) in
     let y = mouth (g.K.Sink.held c.tell.new.sink) (g.K.Sink.faults c.tell.new.sink) in
     let view = refusal_view c.in-Err.refusal in
-    answered e e x y c.tell.result.0 (SaysJudged p cert) [] c.refused.result (passes_nil e)
-    (refused_result c.refused.result p cert e view c.in-Err.ensures.answer c.refused.ensures.status c.refused.ensures.text) (inr (inr (refl, refl)))
+    answered e e x y c.tell.result.0 (SaysJudged c.args.time p cert) [] c.refused.result (passes_nil e)
+    (refused_result c.args.time c.refused.result p cert e view c.in-Err.ensures.answer c.refused.ensures.status c.refused.ensures.text) (inr (inr (refl, refl)))
     c.tell.ensures

@@ -18,7 +18,7 @@ returns-in-Ok g c =
     let z = mouth (g.K.Sink.held c.tell_outline.new.sink) (g.K.Sink.faults c.tell_outline.new.sink) in
     let y = mouth (g.K.Sink.held c.converse.new.sink) (g.K.Sink.faults c.converse.new.sink) in
     let told = subst (λ (p : Tables). Utters x z (outline_text p)) c.typed.ensures.program c.in-Ok.ensures.well in
-    ended_behind (SaysIn (SaysRobot acc)) (SaysIn (SaysOutline acc)) e e f x z y [] (outline_text acc.program) c.converse.result.0 (passes_nil e) told
+    ended_behind (SaysIn (SaysRobot c.args.time acc)) (SaysIn (SaysOutline c.args.time acc)) e e f x z y [] (outline_text acc.program) c.converse.result.0 (passes_nil e) told
     (λ said bytes text says. (text, refl, says)) c.converse.ensures
 
 pub returns-in-Err : goal.returns-in-Err
@@ -28,5 +28,5 @@ returns-in-Err g c =
     let x = mouth (g.K.Sink.held c.args.sink.now) (g.K.Sink.faults c.args.sink.now) in
     let y = mouth (g.K.Sink.held c.tell_outline.new.sink) (g.K.Sink.faults c.tell_outline.new.sink) in
     let cut = subst (λ (p : Tables). CutsOff x y (outline_text p)) c.typed.ensures.program c.in-Err.ensures.cut in
-    ended_well (SaysIn (SaysOutline acc)) e e x y [] (outline_text acc.program) 4 5 (passes_nil e) (λ four. absurd (omega arith))
-    (outlined_in_part acc e) (inr (refl, cut.0, cut.1))
+    ended_well (SaysIn (SaysOutline c.args.time acc)) e e x y [] (outline_text acc.program) 4 5 (passes_nil e) (λ four. absurd (omega arith))
+    (outlined_in_part c.args.time acc e) (inr (refl, cut.0, cut.1))

@@ -5,7 +5,7 @@ use Rattle.sot_lang.specs.Tables.{Tables}
 use Rattle.sot_lang.specs.TableRules.{MeetsTableRules}
 use Rattle.sot_tube.specs.Certified.{IsWellCertified}
 use Rattle.sot_guard.specs.declared.begin_fail.BeginFail.{BeginFail}
-use Rattle.sot_guard.specs.Resuming.{IfNotHeld, IsStartUnsafe}
+use Rattle.sot_guard.specs.Beginning.{IfNotHeld, IsStartUnsafe}
 use Rattle.sot_guard_program.specs.Moments.{ears, mouth, Ended}
 use Rattle.sot_guard_program.specs.Says.{SaysBegun}
 use Rattle.sot_guard_program.specs.Tellings.{IsStartLine}
@@ -17,7 +17,7 @@ use Rattle.sot_guard_program.proofs.Results.{silent, unheld_result}
 use Rattle.sot_guard_program.proofs.talking.begin.Goals as goal
 
 pub returns-in-Err : goal.returns-in-Err
-returns-in-Err g c = silent (SaysFrom c.args.ear.now.ended (SaysOpened c.args.opening)) _ _ (inr (inr (refl, (refl, refl))), λ _. refl)
+returns-in-Err g c = silent (SaysFrom c.args.ear.now.ended (SaysOpened c.args.time c.args.opening)) _ _ (inr (inr (refl, (refl, refl))), λ _. refl)
 
 pub returns-in-Ok-begin : goal.returns-in-Ok-begin
 returns-in-Ok-begin g c =
@@ -34,7 +34,7 @@ returns-in-Ok-begin g c =
     let certified = subst (λ (p : Tables). IsWellCertified p a.accepted.cert.jitter a.accepted.cert) as_program c.requires.certified in
     let begins = c.in-Ok-begin.ensures in
     let count : c.len.result ≡ length a.starts = omega (arith, c.len.ensures, c.in-Ok.ensures.len, ap length c.starts.ensures) in
-    begun a t ended e f x y status rules certified
+    begun c.args.time a t ended e f x y status rules certified
     (record {
       all = c.requires.all;
       opening = begins.opening;
@@ -52,7 +52,7 @@ pub unheld-requires-clause-there : goal.unheld-requires-clause-there
 unheld-requires-clause-there g c =
     let m = c.in-Err-NotHeldSafe.module in
     let a = c.args.opening in
-    let unsafe = subst (λ (f : BeginFail). IfNotHeld f (λ n. IsStartUnsafe a.accepted.program a.accepted.cert.jitter a.starts n))
+    let unsafe = subst (λ (f : BeginFail). IfNotHeld f (λ n. IsStartUnsafe a.accepted.program a.accepted.cert.jitter c.args.time a.starts n))
     c.in-Err-NotHeldSafe.field-0-is c.in-Err-NotHeldSafe.ensures.not_held in
     let first = unsafe.2.unheld in
     slice_get_within c.args.p.now.modules m first.module_info
@@ -66,15 +66,15 @@ returns-in-Err-NotHeldSafe g c =
     let x = mouth (g.K.Sink.held c.args.sink.now) (g.K.Sink.faults c.args.sink.now) in
     let y = mouth (g.K.Sink.held c.tell.new.sink) (g.K.Sink.faults c.tell.new.sink) in
     let r = c.unheld.result in
-    let unsafe = subst (λ (f : BeginFail). IfNotHeld f (λ n. IsStartUnsafe a.accepted.program a.accepted.cert.jitter a.starts n))
+    let unsafe = subst (λ (f : BeginFail). IfNotHeld f (λ n. IsStartUnsafe a.accepted.program a.accepted.cert.jitter c.args.time a.starts n))
     c.in-Err-NotHeldSafe.field-0-is c.in-Err-NotHeldSafe.ensures.not_held in
     let m = c.in-Err-NotHeldSafe.module in
     let starts = c.deref.ensures.value ∙ c.in-Ok.ensures.items ∙ c.starts.ensures in
     let line = subst (λ (p : Tables). IfOk r (λ n. IsStartLine p a.starts m n.text.items)) (sym c.requires.program)
     (subst (λ (s : List (List ℤ)). IfOk r (λ n. IsStartLine c.args.p.now s m n.text.items)) starts c.unheld.ensures.text) in
-    answered e e x y c.tell.result.0 (SaysFrom ended (SaysOpened a)) [] r (passes_nil e)
-    (unheld_result r a ended e m unsafe c.unheld.ensures.status line)
+    answered e e x y c.tell.result.0 (SaysFrom ended (SaysOpened c.args.time a)) [] r (passes_nil e)
+    (unheld_result c.args.time r a ended e m unsafe c.unheld.ensures.status line)
     (inr (inr (refl, (refl, refl))), λ _. refl) c.tell.ensures
 
 pub returns : goal.returns
-returns g c = silent (SaysFrom c.args.ear.now.ended (SaysOpened c.args.opening)) _ _ (inr (inr (refl, (refl, refl))), λ _. refl)
+returns g c = silent (SaysFrom c.args.ear.now.ended (SaysOpened c.args.time c.args.opening)) _ _ (inr (inr (refl, (refl, refl))), λ _. refl)

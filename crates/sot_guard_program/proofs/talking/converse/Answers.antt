@@ -6,7 +6,7 @@ use Rattle.sot_guard_program.proofs.talking.converse.Goals as goal
 
 pub returns-in-Err : goal.returns-in-Err
 returns-in-Err g c =
-    silent_first c.args.accepted.now (ears (g.S.Source.left c.args.source.now) (g.S.Source.faults c.args.source.now) c.args.ear.now)
+    silent_first c.args.time c.args.accepted.now (ears (g.S.Source.left c.args.source.now) (g.S.Source.faults c.args.source.now) c.args.ear.now)
     (mouth (g.K.Sink.held c.args.sink.now) (g.K.Sink.faults c.args.sink.now))
 
 pub begin-requires-clause-program : goal.begin-requires-clause-program
@@ -15,7 +15,7 @@ begin-requires-clause-program g c =
     let e = ears (g.S.Source.left c.args.source.now) (g.S.Source.faults c.args.source.now) c.args.ear.now in
     let m = ears (g.S.Source.left new.source) (g.S.Source.faults new.source) new.ear in
     let first = c.in-Ok.ensures in
-    let same = accepted_same c.args.accepted.now c.in-Ok.opening first.accepted first.none new.opening e m c.in-Ok-hear_starts.ensures in
+    let same = accepted_same c.args.time c.args.accepted.now c.in-Ok.opening first.accepted first.none new.opening e m c.in-Ok-hear_starts.ensures in
     ap (λ (x : Admitted). x.program) same ∙ sym c.typed-p.ensures.program
 
 pub begin-requires-clause-certified : goal.begin-requires-clause-certified
@@ -24,7 +24,7 @@ begin-requires-clause-certified g c =
     let e = ears (g.S.Source.left c.args.source.now) (g.S.Source.faults c.args.source.now) c.args.ear.now in
     let m = ears (g.S.Source.left new.source) (g.S.Source.faults new.source) new.ear in
     let first = c.in-Ok.ensures in
-    still_certified c.args.accepted.now c.in-Ok.opening first.accepted first.none new.opening e m c.in-Ok-hear_starts.ensures c.typed-p.result.now
+    still_certified c.args.time c.args.accepted.now c.in-Ok.opening first.accepted first.none new.opening e m c.in-Ok-hear_starts.ensures c.typed-p.result.now
     c.typed-p.ensures.program c.requires.certified
 
 pub returns-in-Ok-hear_starts : goal.returns-in-Ok-hear_starts
@@ -37,7 +37,7 @@ returns-in-Ok-hear_starts g c =
     let x = mouth (g.K.Sink.held c.args.sink.now) (g.K.Sink.faults c.args.sink.now) in
     let y = mouth (g.K.Sink.held last.sink) (g.K.Sink.faults last.sink) in
     let first = c.in-Ok.ensures in
-    conversed c.args.accepted.now c.in-Ok.opening first.accepted first.none new.opening e m c.in-Ok-hear_starts.ensures f x y c.begin.result.0
+    conversed c.args.time c.args.accepted.now c.in-Ok.opening first.accepted first.none new.opening e m c.in-Ok-hear_starts.ensures f x y c.begin.result.0
     c.begin.ensures
 
 pub returns-in-Err-hear_starts : goal.returns-in-Err-hear_starts
@@ -48,5 +48,5 @@ returns-in-Err-hear_starts g c =
     let x = mouth (g.K.Sink.held c.args.sink.now) (g.K.Sink.faults c.args.sink.now) in
     let y = mouth (g.K.Sink.held c.stopped.new.sink) (g.K.Sink.faults c.stopped.new.sink) in
     let first = c.in-Ok.ensures in
-    conversed_in_part c.args.accepted.now c.in-Ok.opening first.accepted first.none e f x y c.stopped.result.0 c.in-Err-hear_starts.halt
+    conversed_in_part c.args.time c.args.accepted.now c.in-Ok.opening first.accepted first.none e f x y c.stopped.result.0 c.in-Err-hear_starts.halt
     c.in-Err-hear_starts.ensures c.stopped.ensures

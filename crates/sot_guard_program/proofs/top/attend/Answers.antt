@@ -9,6 +9,7 @@ use Rattle.sot_guard_program.specs.Ends.{ears_at}
 use Rattle.sot_guard_program.specs.Moments.{ears, mouth, Ended}
 use Rattle.sot_guard_program.specs.Says.{SaysMission, SaysAll}
 use Rattle.sot_guard_program.specs.Beginning.{SaysUnmarked}
+use Rattle.sot_guard_input.proofs.Marks.{marked_within}
 use Rattle.sot_guard_program.proofs.Passing.{ended_quiet}
 use Rattle.sot_guard_program.proofs.Judged.{answered}
 use Rattle.sot_guard_program.proofs.Results.{divided, failed, unmarked_result, long_result}
@@ -18,6 +19,13 @@ use Rattle.sot_guard_program.proofs.top.attend.Goals as goal
 abbrev Fails : Option (List ℕ) → Option (List ℕ) → ℕ → ℕ → List ℕ → FrontFail → Type 0
 Fails left left_after faults faults_after waiting why =
     (passed : List ℕ) × Reads left left_after [] waiting passed × IfFails why (Rose faults faults_after) (IsTooLong passed waiting input_limit)
+
+pub accept-requires-clause-horizon : goal.accept-requires-clause-horizon
+accept-requires-clause-horizon g c κs lives =
+    let left = g.S.Source.left in
+    let read = c.read_front.new in
+    let comes = subst (Comes (left c.args.source.now) (left read.source) read.ear input_limit) c.in-Ok-Observed.field-0-is c.in-Ok-Observed.ensures.front in
+    marked_within comes.0 c.in-Ok-Observed.time comes.2.is
 
 pub returns-in-Ok-Observed : goal.returns-in-Ok-Observed
 returns-in-Ok-Observed g c =
@@ -40,9 +48,9 @@ returns-in-Ok-Observed g c =
       waiting = last.ear.buffer;
       ended = last.ear.ended;
       is =
-          divided front comes.0 e m f x y c.accept.result.0 comes.1 comes.2 comes.3.short
+          divided c.in-Ok-Observed.time front comes.0 e m f x y c.accept.result.0 comes.1 comes.2 comes.3.short
           (record { reads = comes.3.reads; well = c.in-Ok-Observed.ensures.well (λ other. absurd cc) })
-          (subst (λ (l : List ℕ). Ended (SaysMission l) m f x y c.accept.result.0) c.deref.ensures.value c.accept.ensures);
+          (subst (λ (l : List ℕ). Ended (SaysMission c.in-Ok-Observed.time l) m f x y c.accept.result.0) c.deref.ensures.value c.accept.ensures);
     }
 
 pub returns-in-Ok-Unobserved : goal.returns-in-Ok-Unobserved
