@@ -12,7 +12,7 @@ FORMATS, LANGUAGE = 'docs/FORMATS.md', 'docs/LANGUAGE.md'
 AND_BESIDES = {
     ('recover', 'recover'): 'make the closed cells smaller, up to a part of `safer` that each hold from it leads back into',
     ('watch', 'watch'): 'look in the trace at what stands just before the tick of that time, or at its end: the formula is false there for the first time',
-    ('formula', 'Form'): 'write comparisons such as `pos.x <= 22` or `mode(nav) == 1`, joined by `not(..)`, `and(.., ..)`, `or(.., ..)`, `once(..)`, `since(.., ..)` and `within(N, ..)`',
+    ('formula', 'Form'): 'write comparisons such as `pos.x <= 22` or `mode(nav) == 1`, joined by `not(..)`, `and(.., ..)`, `or(.., ..)`, `implies(.., ..)`, `always(..)`, `once(..)`, `since(.., ..)` and `within(N, ..)`',
     ('formula', 'Unknown'): 'name a topic without fields, a field `topic.field`, a state variable `plant.variable` or `mode(module)` of the program',
     ('formula', 'ScaleDiffers'): 'write the literal with as many decimals as what it is compared with has',
     ('bridge', 'Section'): 'put a line `%bridge`, alone, between the two missions',
